@@ -1,0 +1,90 @@
+// Bit maps over lent 32-bit words, as `bit_vector_*` of the Rust's util/mod.rs: bit k of a map is bit k % 32 of word k / 32.
+ghost use mathlib.Core.Path.{_≡_};
+ghost use Prim.Native.Nat.{_+_, _*_, _^_, _<_, _≤_};
+ghost use mir.Val.{boolByte};
+ghost use lib.ListN.{length};
+ghost use Rattle.bits.specs.Bits.{bit, Filled, FirstAt};
+ghost use Rattle.bits.specs.Walk.{flipped};
+
+pub fn bit_vector_get_bit(buf: &[u32], index: usize) -> bool
+    requires { ⌜ index < 32 * length (now buf) ⌝ }
+    ensures { λ r. ⌜ boolByte r ≡ bit (now (buf .entry)) index ⌝ }
+{
+    let vec_index = index / 32;
+    let bit_index = (index % 32) as u32;
+    ((buf[vec_index] >> bit_index) & 1) != 0
+}
+
+pub fn bit_vector_set_bit(buf: &mut [u32], index: usize, value: bool)
+    requires { ⌜ index < 32 * length (now buf) ⌝ }
+    ensures { λ _. ⌜ Filled (now (buf .entry)) index 1 (boolByte value) (now (buf .exit)) ⌝ }
+{
+    let vec_index = index / 32;
+    let bit_index = (index % 32) as u32;
+    if value {
+        buf[vec_index] |= 1 << bit_index;
+    } else {
+        buf[vec_index] &= !(1 << bit_index);
+    }
+}
+
+// Unit by unit.
+fn put_bits(buf: &mut [u32], index: usize, count: usize, value: bool)
+    requires { ⌜ (index + count ≤ 32 * length (now buf)) × (length (now buf) < 2 ^ 32) ⌝ }
+    ensures { λ _. ⌜ Filled (now (buf .entry)) index count (boolByte value) (now (buf .exit)) ⌝ }
+{
+    let mut i: usize = 0;
+    while i < count {
+        bit_vector_set_bit(buf, index + i, value);
+        i += 1;
+    }
+}
+
+// Fill and clear in one, as the Rust's macro: the part from the first word that is touched is lent on, and no word before it.
+fn bitvector_op(buf: &mut [u32], index: usize, count: usize, value: bool)
+    requires { ⌜ (index + count ≤ 32 * length (now buf)) × (length (now buf) < 2 ^ 32) ⌝ }
+    ensures { λ _. ⌜ Filled (now (buf .entry)) index count (boolByte value) (now (buf .exit)) ⌝ }
+{
+    let vec_index = index / 32;
+    let bit_index = index % 32;
+    put_bits(&mut buf[vec_index..], bit_index, count, value);
+}
+
+pub fn bit_vector_fill(buf: &mut [u32], index: usize, count: usize)
+    requires { ⌜ (index + count ≤ 32 * length (now buf)) × (length (now buf) < 2 ^ 32) ⌝ }
+    ensures { λ _. ⌜ Filled (now (buf .entry)) index count 1 (now (buf .exit)) ⌝ }
+{
+    bitvector_op(buf, index, count, true);
+}
+
+pub fn bit_vector_clear(buf: &mut [u32], index: usize, count: usize)
+    requires { ⌜ (index + count ≤ 32 * length (now buf)) × (length (now buf) < 2 ^ 32) ⌝ }
+    ensures { λ _. ⌜ Filled (now (buf .entry)) index count 0 (now (buf .exit)) ⌝ }
+{
+    bitvector_op(buf, index, count, false);
+}
+
+// The bits of `w` that are `value`, as ones: the Rust's `w ^ flip_mask`.
+fn flip(w: u32, value: bool) -> u32
+    ensures { λ r. ⌜ r ≡ flipped w value ⌝ }
+{
+    if value { w } else { !w }
+}
+
+// The first bit from `start` on that is `value`, or the number of bits.
+pub fn bit_vector_index_of(buf: &[u32], start: usize, value: bool) -> usize
+    requires { ⌜ (start < 32 * length (now buf)) × (length (now buf) < 2 ^ 32) ⌝ }
+    ensures { λ r. ⌜ FirstAt (now (buf .entry)) start (boolByte value) r ⌝ }
+{
+    let mut vec_index = start / 32;
+    let bit_index = (start % 32) as u32;
+    let mut bits = flip(buf[vec_index], value) & (0xffff_ffff << bit_index);
+    while bits == 0 {
+        vec_index += 1;
+        if vec_index == buf.len() {
+            return vec_index * 32;
+        }
+        bits = flip(buf[vec_index], value);
+    }
+    vec_index * 32 + u32::trailing_zeros(bits) as usize
+}

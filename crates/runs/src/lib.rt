@@ -1,0 +1,235 @@
+// The runs of free units of a used map within a window, and the search for a place: the Rust's `BitVectorRangeIterator`, and what `alloc`
+// does with it in one block. A window is the units from `start` up to `end`, and empty where `end` is not above `start`. Runs are clipped at
+// both ends.
+ghost use mathlib.Core.Path.{_≡_};
+ghost use Prim.Native.Nat.{ℕ, _+_, _*_, _-_, _^_, _<_, _≤_, min, max};
+ghost use lib.ListN.{length};
+ghost use Rattle.bits.specs.Walk.{Seen};
+ghost use Rattle.runs.specs.Walk.{Stands, ClearIn, Ends, Answer};
+ghost use Rattle.runs.specs.Window.{Sought};
+
+// Where a walk stands: a word by its index, those of its free units that are still to be looked at as ones, and the window's end.
+pub struct Walk {
+    pub at: usize,
+    pub word: u32,
+    pub end: usize,
+}
+
+// The next run, from its first unit up to its end, and where the walk goes on.
+pub enum Next {
+    Run(usize, usize, Walk),
+    Done,
+}
+
+fn lesser(a: usize, b: usize) -> usize
+    ensures { λ r. ⌜ r ≡ min a b ⌝ }
+{
+    if a < b { a } else { b }
+}
+
+fn greater(a: usize, b: usize) -> usize
+    ensures { λ r. ⌜ r ≡ max a b ⌝ }
+{
+    if a < b { b } else { a }
+}
+
+// A walk at the window's start. An empty window's walk may stand behind the last word, and no word is read.
+pub fn start_walk(words: &[u32], start: usize, end: usize) -> Walk
+    requires { ⌜ (start ≤ 32 * length (now words)) × (end ≤ 32 * length (now words)) × (length (now words) < 2 ^ 32) ⌝ }
+    ensures { λ r. ⌜ Seen (now (words .entry)) end start 0 (r .at) (r .word) ⌝ }
+    ensures { λ r. ⌜ r .end ≡ end ⌝ }
+{
+    let at = start / 32;
+    let low = (start % 32) as u32;
+    if at * 32 < end {
+        let word = !words[at] & (0xffff_ffff << low);
+        return Walk { at, word, end };
+    }
+    Walk { at, word: 0, end }
+}
+
+// The first word from `from` on that has free units left, or the window's last.
+fn skip(words: &[u32], from: usize, left: u32, end: usize) -> Walk
+    requires { ⌜ Stands (now words) from end ⌝ }
+    ensures { λ r. ⌜ ((p : ℕ) → Seen (now (words .entry)) end p 0 from left → Seen (now (words .entry)) end p 0 (r .at) (r .word)) ⌝ }
+    ensures { λ r. ⌜ ((r .word ≡ 0 → end ≤ 32 * r .at + 32) × (r .end ≡ end) × (r .at ≤ length (now (words .entry)))) ⌝ }
+{
+    let mut at = from;
+    let mut word = left;
+    while word == 0 {
+        let next = at + 1;
+        if end <= next * 32 {
+            return Walk { at, word, end };
+        }
+        at = next;
+        word = !words[at];
+    }
+    Walk { at, word, end }
+}
+
+// The run from `start`, whose units in word `from` are all free, as far as it goes or until it is as long as `hint`; `end` is the window's.
+fn extend(words: &[u32], from: usize, start: usize, end: usize, hint: usize) -> Walk
+    requires { ⌜ Stands (now words) from end ⌝ }
+    requires { ⌜ (start < end) × (32 * from ≤ start) × (start < 32 * from + 32) ⌝ }
+    ensures { λ r. ⌜ (ClearIn (now (words .entry)) start (32 * from + 32) end → Ends (now (words .entry)) start end hint (r .end) (r .at) (r .word)) ⌝ }
+{
+    let mut at = from;
+    let mut e = lesser(at * 32 + 32, end);
+    while e - start < hint {
+        if e == end {
+            return Walk {
+                at,
+                word: 0,
+                end: e,
+            };
+        }
+        at += 1;
+        let w = words[at];
+        if w != 0 {
+            let j = u32::trailing_zeros(w);
+            let stop = lesser(at * 32 + (j as usize), end);
+            return Walk {
+                at,
+                word: !w & (0xffff_ffff << j),
+                end: stop,
+            };
+        }
+        e = lesser(at * 32 + 32, end);
+    }
+    Walk {
+        at,
+        word: 0,
+        end: e,
+    }
+}
+
+// The next run of free units, with slice and position apart. A run that is as long as `hint` may be cut there, as in the Rust: whoever asks
+// for `hint` units has found them.
+pub fn next_range(words: &[u32], from: usize, left: u32, end: usize, hint: usize) -> Next
+    requires { ⌜ Stands (now words) from end ⌝ }
+    ensures { λ r. ⌜ Answer (now (words .entry)) from left end hint r ⌝ }
+{
+    let s = skip(words, from, left, end);
+    let at = s.at;
+    let word = s.word;
+    if word == 0 {
+        return Next::Done;
+    }
+    let i = u32::trailing_zeros(word);
+    let start = at * 32 + (i as usize);
+    if end <= start {
+        return Next::Done;
+    }
+    let used = !word & (0xffff_ffff << i);
+    if used != 0 {
+        let j = u32::trailing_zeros(used);
+        let e = lesser(at * 32 + (j as usize), end);
+        let rest = word & (0xffff_ffff << j);
+        return Next::Run(
+            start,
+            e,
+            Walk {
+                at,
+                word: rest,
+                end,
+            },
+        );
+    }
+    let x = extend(words, at, start, end, hint);
+    let e = x.end;
+    let to = x.at;
+    let rest = x.word;
+    Next::Run(
+        start,
+        e,
+        Walk {
+            at: to,
+            word: rest,
+            end,
+        },
+    )
+}
+
+// The walk that keeps hold of the words it reads, as in the Rust. Its functions are thin over `next_range`: one takes it apart, one makes it.
+pub struct BitVectorRangeIterator<'a> {
+    pub slice: &'a [u32],
+    pub at: usize,
+    pub word: u32,
+    pub end: usize,
+}
+
+pub fn held_next<'a>(r: BitVectorRangeIterator<'a>, hint: usize) -> Next
+    requires { ⌜ Stands (now (r .slice)) (r .at) (r .end) ⌝ }
+    ensures { λ s. ⌜ Answer (now (r .entry .slice)) (r .entry .at) (r .entry .word) (r .entry .end) hint s ⌝ }
+{
+    next_range(r.slice, r.at, r.word, r.end, hint)
+}
+
+// A step of the held walk for a caller whose own parameters are plain, as the search.
+pub fn step(slice: &[u32], at: usize, left: u32, end: usize, hint: usize) -> Next
+    requires { ⌜ Stands (now slice) at end ⌝ }
+    ensures { λ r. ⌜ Answer (now (slice .entry)) at left end hint r ⌝ }
+{
+    held_next(
+        BitVectorRangeIterator {
+            slice,
+            at,
+            word: left,
+            end,
+        },
+        hint,
+    )
+}
+
+// What a search in a window finds: the lowest place; or else the window's first free unit, the end of its last free run and its longest
+// free run; or no free unit at all.
+pub enum Search {
+    At(usize),
+    Tight(usize, usize, usize),
+    Full,
+}
+
+// The start of the first run: of this one if there was none before.
+fn earlier(longest: usize, first: usize, start: usize) -> usize
+    ensures { λ r. ⌜ ((longest ≡ 0 → r ≡ start) × (0 < longest → r ≡ first)) ⌝ }
+{
+    if longest == 0 { start } else { first }
+}
+
+fn closed(first: usize, last: usize, longest: usize) -> Search
+    ensures { λ r. ⌜ ((longest ≡ 0 → r ≡ Search.Full) × (0 < longest → r ≡ Search.Tight first last longest)) ⌝ }
+{
+    if longest == 0 {
+        Search::Full
+    } else {
+        Search::Tight(first, last, longest)
+    }
+}
+
+// The lowest place of `n` free units in the window, or what the window tightens to.
+pub fn search_window(words: &[u32], start: usize, end: usize, n: usize) -> Search
+    requires { ⌜ (start ≤ 32 * length (now words)) × (end ≤ 32 * length (now words)) × (length (now words) < 2 ^ 32) × (0 < n) ⌝ }
+    ensures { λ r. ⌜ Sought (now (words .entry)) start end n r ⌝ }
+{
+    let w = start_walk(words, start, end);
+    let mut at = w.at;
+    let mut word = w.word;
+    let mut from = start;
+    let mut first = start;
+    let mut longest: usize = 0;
+    while from < end {
+        let got = step(words, at, word, end, n);
+        let Next::Run(s, e, next) = got else {
+            return closed(first, from, longest);
+        };
+        if n <= e - s {
+            return Search::At(s);
+        }
+        first = earlier(longest, first, s);
+        longest = greater(longest, e - s);
+        at = next.at;
+        word = next.word;
+        from = e;
+    }
+    closed(first, from, longest)
+}

@@ -1,0 +1,67 @@
+// A map of slots of `w` words each, one slot for a block: a function hands back a slot's part by its number, to be read, or to be written
+// where it is marked.
+ghost use mathlib.Core.Path.{_≡_};
+ghost use Prim.Native.Nat.{_+_, _*_, _^_, _≤_, _<_};
+ghost use mir.Val.{boolByte};
+ghost use lib.ListN.{length};
+ghost use Rattle.bits.specs.Bits.{filled};
+ghost use Rattle.slots.specs.Slots.{slotOf, putSlot};
+ghost use Rattle.slots.specs.Back.{GoesBack};
+
+// The part of a slot, to be read.
+pub fn slot(words: &[u32], slot: usize, w: usize) -> &[u32]
+    requires { ⌜ (slot + 1) * w ≤ length (now words) ⌝ }
+    ensures { λ r. ⌜ now r ≡ slotOf w slot (now (words .entry)) ⌝ }
+{
+    let a = slot * w;
+    let e = a + w;
+    &words[a..e]
+}
+
+// The part of a slot, to be written. `back`: once the part's last words are known, so are the whole's.
+pub fn slot_mut(words: &mut [u32], slot: usize, w: usize) -> &mut [u32]
+    requires { ⌜ (slot + 1) * w ≤ length (now words) ⌝ }
+    ensures { λ r. ⌜ now r ≡ slotOf w slot (now (words .entry)) ⌝ }
+    ensures back { λ r. GoesBack 𝓤 H A (search) (slot * w) w (words .entry) r }
+{
+    let a = slot * w;
+    let e = a + w;
+    &mut words[a..e]
+}
+
+// All work on a part is done here, so that `write` stays as it is.
+fn put(part: &mut [u32], at: usize, n: usize, value: bool)
+    requires { ⌜ (at + n ≤ 32 * length (now part)) × (length (now part) < 2 ^ 32) ⌝ }
+    ensures { λ _. ⌜ now (part .exit) ≡ filled (now (part .entry)) at n (boolByte value) ⌝ }
+{
+    if value {
+        bits::bit_vector_fill(part, at, n);
+    } else {
+        bits::bit_vector_clear(part, at, n);
+    }
+}
+
+// The one function that takes a slot's part and writes it.
+fn write(words: &mut [u32], slot: usize, w: usize, at: usize, n: usize, value: bool)
+    requires { ⌜ ((slot + 1) * w ≤ length (now words)) × (at + n ≤ 32 * w) × (w < 2 ^ 32) ⌝ }
+    ensures { λ _. ⌜ now (words .exit) ≡ putSlot w slot (now (words .entry)) (filled (slotOf w slot (now (words .entry))) at n (boolByte value)) ⌝ }
+{
+    let part = slot_mut(words, slot, w);
+    put(part, at, n, value);
+}
+
+// Units `at` to `at + n` of a slot set, in the used map or the stop map.
+pub fn mark(words: &mut [u32], slot: usize, w: usize, at: usize, n: usize)
+    requires { ⌜ ((slot + 1) * w ≤ length (now words)) × (at + n ≤ 32 * w) × (w < 2 ^ 32) ⌝ }
+    ensures { λ _. ⌜ now (words .exit) ≡ putSlot w slot (now (words .entry)) (filled (slotOf w slot (now (words .entry))) at n 1) ⌝ }
+{
+    write(words, slot, w, at, n, true);
+}
+
+// The same units cleared.
+pub fn unmark(words: &mut [u32], slot: usize, w: usize, at: usize, n: usize)
+    requires { ⌜ ((slot + 1) * w ≤ length (now words)) × (at + n ≤ 32 * w) × (w < 2 ^ 32) ⌝ }
+    ensures { λ _. ⌜ now (words .exit) ≡ putSlot w slot (now (words .entry)) (filled (slotOf w slot (now (words .entry))) at n 0) ⌝ }
+{
+    write(words, slot, w, at, n, false);
+}
