@@ -17,3 +17,9 @@ eq-or-ne a b =
 -- neither is less
 pub same-of-not-lt : (a b : ℕ) → (a < b → ⊥) → (b < a → ⊥) → a ≡ b
 same-of-not-lt a b f g = ⊎-elim (λ p. ⊎-elim (λ e. e) (λ l. absurd (f l)) (eq-or-lt-of-le p)) (λ l. absurd (g l)) (le-or-lt a b)
+
+pub by-le : {A : Type 0} (a b : ℕ) → (a ≤ b → A) → (b < a → A) → A
+by-le a b f g = ⊎-elim f g (le-or-lt a b)
+
+pub by-eq : {A : Type 0} (a b : ℕ) → (a ≡ b → A) → ((a ≡ b → ⊥) → A) → A
+by-eq a b f g = ⊎-elim f g (eq-or-ne a b)

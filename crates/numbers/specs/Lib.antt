@@ -1,2 +1,3 @@
 pub mod Align
 pub mod Units
+pub mod Pick

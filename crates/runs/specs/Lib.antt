@@ -1,2 +1,3 @@
 pub mod Window
 pub mod Walk
+pub mod Seek

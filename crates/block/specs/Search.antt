@@ -1,0 +1,35 @@
+-- Document 01, Search, in one block. Assumes nothing.
+use Prim.Native.Nat.{ℕ, _+_, _-_}
+use mathlib.Core.Bool.{Bool, true, false, not}
+use mathlib.Core.List.{List}
+use lib.Bits.{bitAnd}
+use lib.Dec.{leb, eqb}
+use Rattle.numbers.specs.Pick.{pick}
+use Rattle.runs.specs.declared.Search.{Search}
+use Rattle.runs.specs.declared.Search.the-variants.{At, Tight, Full}
+use Rattle.runs.specs.Seek.{seek}
+use Rattle.slots.specs.Slots.{slotOf}
+use Rattle.block.specs.declared.Block.{Block}
+use Rattle.block.specs.declared.Looked.{Looked}
+use Rattle.block.specs.declared.Looked.the-variants.{Found, Missed}
+use Rattle.block.specs.Record.{dirtyFlag, off, withNumbers}
+
+abbrev pub isDirty : Block → Bool
+isDirty b = not (eqb (bitAnd (b .flags) dirtyFlag) 0)
+
+-- a block is looked into if its free units are at least n and it is dirty or its largest-run field is at least n
+unfoldable pub looks : Block → ℕ → Bool
+looks b n = pick (leb n (b .area - b .used)) (pick (isDirty b) true (leb n (b .largest))) false
+
+-- the window's start becomes its first free unit, its end the end of its last free run, the largest-run field its longest free run, dirty is cleared
+abbrev pub tightened : Block → ℕ → ℕ → ℕ → Block
+tightened b first last longest = withNumbers b (off (b .flags) dirtyFlag) (b .used) first last longest
+
+-- by what a search in the window finds
+abbrev pub looked : Block → Search → Looked
+looked b (At i) = Found i
+looked b (Tight first last longest) = Missed (tightened b first last longest)
+looked b Full = Missed b
+
+unfoldable pub lookInto : ℕ → Block → List ℕ → ℕ → Looked
+lookInto w b u n = pick (looks b n) (looked b (seek (slotOf w (b .slot) u) (b .start) (b .end) n)) (Missed b)

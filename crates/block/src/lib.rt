@@ -1,0 +1,214 @@
+// One block: its record, what marking does to it and to its parts of the two maps, and the search in it. `JitAllocatorBlock` in the Rust.
+ghost use mathlib.Core.Path.{_≡_};
+ghost use Prim.Native.Nat.{_+_, _-_, _<_, _≤_, min, max};
+ghost use lib.ListN.{length};
+ghost use Rattle.block.specs.Record.{Placed, SpanIn};
+ghost use Rattle.block.specs.Marking.{moved, marked, released, shrunk, painted, markAllocated, markReleased, markShrunk};
+ghost use Rattle.block.specs.Search.{isDirty, looks, tightened, lookInto};
+
+// A block of `area` units from address `base` on. Its maps are the words of slot `slot`. `start` and `end` are its search window,
+// `largest` the longest free run that a search has seen.
+pub struct Block {
+    pub base: u64,
+    pub size: u64,
+    pub pool: usize,
+    pub slot: usize,
+    pub flags: u32,
+    pub area: u32,
+    pub used: u32,
+    pub start: u32,
+    pub end: u32,
+    pub largest: u32,
+}
+
+impl Block {
+    // No unit is used.
+    pub const FLAG_EMPTY: u32 = 1;
+    // `largest` may be out of date.
+    pub const FLAG_DIRTY: u32 = 2;
+}
+
+fn lesser(a: u32, b: u32) -> u32
+    ensures { λ r. ⌜ r ≡ min a b ⌝ }
+{
+    if a < b { a } else { b }
+}
+
+fn greater(a: u32, b: u32) -> u32
+    ensures { λ r. ⌜ r ≡ max a b ⌝ }
+{
+    if a < b { b } else { a }
+}
+
+// A window's edge that equals the span's own edge moves to its other edge.
+fn moved_edge(edge: u32, own: u32, other: u32) -> u32
+    ensures { λ r. ⌜ r ≡ moved edge own other ⌝ }
+{
+    if edge == own { other } else { edge }
+}
+
+// The record once the units from `from` up to `to` are a span.
+fn marked_record(b: Block, from: u32, to: u32) -> Block
+    requires { ⌜ SpanIn b from to × (b .used + (to - from) ≤ b .area) ⌝ }
+    ensures { λ r. ⌜ r ≡ marked b from to ⌝ }
+{
+    let flags = b.flags & !Block::FLAG_EMPTY;
+    let used = b.used + (to - from);
+    let mut r = b;
+    r.used = used;
+    if used == b.area {
+        r.start = b.area;
+        r.end = 0;
+        r.largest = 0;
+        r.flags = flags & !Block::FLAG_DIRTY;
+        return r;
+    }
+    r.start = moved_edge(b.start, from, to);
+    r.end = moved_edge(b.end, to, from);
+    r.flags = flags | Block::FLAG_DIRTY;
+    r
+}
+
+// The record once the span from `from` up to `to` is gone.
+fn released_record(b: Block, from: u32, to: u32) -> Block
+    requires { ⌜ SpanIn b from to × (to - from ≤ b .used) ⌝ }
+    ensures { λ r. ⌜ r ≡ released b from to ⌝ }
+{
+    let used = b.used - (to - from);
+    let mut r = b;
+    r.used = used;
+    if used == 0 {
+        r.start = 0;
+        r.end = b.area;
+        r.largest = b.area;
+        r.flags = (b.flags | Block::FLAG_EMPTY) & !Block::FLAG_DIRTY;
+        return r;
+    }
+    r.start = lesser(b.start, from);
+    r.end = greater(b.end, to);
+    r.flags = b.flags | Block::FLAG_DIRTY;
+    r
+}
+
+// The record once the tail from `from` up to `to` is cut off a span.
+fn shrunk_record(b: Block, from: u32, to: u32) -> Block
+    requires { ⌜ SpanIn b from to × (to - from ≤ b .used) ⌝ }
+    ensures { λ r. ⌜ r ≡ shrunk b from to ⌝ }
+{
+    let mut r = b;
+    r.used = b.used - (to - from);
+    r.start = lesser(b.start, from);
+    r.end = greater(b.end, to);
+    r.flags = b.flags | Block::FLAG_DIRTY;
+    r
+}
+
+// The units from `from` up to `to` become a span: used bits on, and the stop bit on at the last one.
+pub fn mark_allocated_area(
+    b: Block,
+    used: &mut [u32],
+    stop: &mut [u32],
+    w: usize,
+    from: u32,
+    to: u32,
+) -> Block
+    requires { ⌜ Placed b w (length (now used)) (length (now stop)) × SpanIn b from to × (b .used + (to - from) ≤ b .area) ⌝ }
+    ensures { λ r. ⌜ painted r (now (used .exit)) (now (stop .exit)) ≡ markAllocated w b from to (now (used .entry)) (now (stop .entry)) ⌝ }
+{
+    let slot = b.slot;
+    slots::mark(used, slot, w, from as usize, (to - from) as usize);
+    slots::mark(stop, slot, w, (to - 1) as usize, 1);
+    marked_record(b, from, to)
+}
+
+// The span from `from` up to `to` goes: used bits off, and the last stop bit off.
+pub fn mark_released_area(
+    b: Block,
+    used: &mut [u32],
+    stop: &mut [u32],
+    w: usize,
+    from: u32,
+    to: u32,
+) -> Block
+    requires { ⌜ Placed b w (length (now used)) (length (now stop)) × SpanIn b from to × (to - from ≤ b .used) ⌝ }
+    ensures { λ r. ⌜ painted r (now (used .exit)) (now (stop .exit)) ≡ markReleased w b from to (now (used .entry)) (now (stop .entry)) ⌝ }
+{
+    let slot = b.slot;
+    slots::unmark(used, slot, w, from as usize, (to - from) as usize);
+    slots::unmark(stop, slot, w, (to - 1) as usize, 1);
+    released_record(b, from, to)
+}
+
+// The tail from `from` up to `to` of a span goes: its used bits and the old stop bit off, a stop bit on at the new last unit.
+pub fn mark_shrunk_area(
+    b: Block,
+    used: &mut [u32],
+    stop: &mut [u32],
+    w: usize,
+    from: u32,
+    to: u32,
+) -> Block
+    requires { ⌜ Placed b w (length (now used)) (length (now stop)) × SpanIn b from to × (to - from ≤ b .used) × (0 < from) ⌝ }
+    ensures { λ r. ⌜ painted r (now (used .exit)) (now (stop .exit)) ≡ markShrunk w b from to (now (used .entry)) (now (stop .entry)) ⌝ }
+{
+    let slot = b.slot;
+    slots::unmark(used, slot, w, from as usize, (to - from) as usize);
+    slots::unmark(stop, slot, w, (to - 1) as usize, 1);
+    slots::mark(stop, slot, w, (from - 1) as usize, 1);
+    shrunk_record(b, from, to)
+}
+
+// What a look for free units in one block comes to: the lowest place; or the block as it is from then on, its window tightened if the search
+// has seen a free unit.
+pub enum Looked {
+    Found(u32),
+    Missed(Block),
+}
+
+// The block is looked into: enough units are free, and the longest run that was seen is long enough or out of date.
+fn is_looked_into(b: Block, n: u32) -> bool
+    requires { ⌜ b .used ≤ b .area ⌝ }
+    ensures { λ r. ⌜ r ≡ looks b n ⌝ }
+{
+    if b.area - b.used < n {
+        return false;
+    }
+    if b.flags & Block::FLAG_DIRTY != 0 {
+        return true;
+    }
+    n <= b.largest
+}
+
+fn tightened_record(b: Block, first: u32, last: u32, longest: u32) -> Block
+    ensures { λ r. ⌜ r ≡ tightened b first last longest ⌝ }
+{
+    let mut r = b;
+    r.start = first;
+    r.end = last;
+    r.largest = longest;
+    r.flags = b.flags & !Block::FLAG_DIRTY;
+    r
+}
+
+// The search for `n` free units in one block.
+pub fn look_into(b: Block, used: &[u32], w: usize, n: u32) -> Looked
+    requires { ⌜ Placed b w (length (now used)) (length (now used)) × (0 < n) ⌝ }
+    ensures { λ r. ⌜ r ≡ lookInto w b (now (used .entry)) n ⌝ }
+{
+    if !is_looked_into(b, n) {
+        return Looked::Missed(b);
+    }
+    let slot = b.slot;
+    let part = slots::slot(used, slot, w);
+    let got = runs::search_window(part, b.start as usize, b.end as usize, n as usize);
+    match got {
+        runs::Search::At(i) => Looked::Found(i as u32),
+        runs::Search::Tight(first, last, longest) => Looked::Missed(tightened_record(
+            b,
+            first as u32,
+            last as u32,
+            longest as u32,
+        )),
+        runs::Search::Full => Looked::Missed(b),
+    }
+}

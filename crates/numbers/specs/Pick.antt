@@ -1,0 +1,6 @@
+-- Either of two values, by a test. Assumes nothing.
+use mathlib.Core.Bool.{Bool, true, false}
+
+abbrev pub pick : {A : Type 0} → Bool → A → A → A
+pick true x y = x
+pick false x y = y
