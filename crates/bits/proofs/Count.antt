@@ -5,6 +5,7 @@ use mathlib.Core.List.{List}
 use native.Mathlib.Nat.{add-zero, add-suc, add-assoc, zero-mul, suc-mul}
 use native.Mathlib.Omega.{arith}
 use lib.ListN.{length}
+use Rattle.numbers.proofs.Split.{by-eq}
 use Rattle.bits.specs.Bits.{bit, Filled, ones}
 use Rattle.bits.proofs.Words.{bit-lt}
 
@@ -52,3 +53,17 @@ ones-filled {ws} {vs} {a} {n} {v} u lo m f p q e =
     let was = ones-all ws a n u e in
     let three = ones-same vs ws (a + n) y (λ k s t. f .above k s) in
     omega (arith, ones-parts vs lo x a n y m whole back, ones-parts ws lo x a n y m whole back, one, two, was, three)
+
+-- all of them, and none of them
+pub ones-all-one : (ws : List ℕ) (a n k : ℕ) → ones ws a n ≡ n → a ≤ k → k < a + n → bit ws k ≡ 1
+unfolding ones
+ones-all-one ws a zero k e p q = absurd (omega arith)
+ones-all-one ws a (suc n) k e p q =
+    by-eq k (a + n) (λ f. ap (bit ws) f ∙ omega (arith, ones-le ws a n, bit-lt ws (a + n)))
+    (λ ne. ones-all-one ws a n k (omega (arith, ones-le ws a n, bit-lt ws (a + n))) p (omega (arith, ne)))
+
+pub ones-none : (ws : List ℕ) (a n k : ℕ) → ones ws a n ≡ 0 → a ≤ k → k < a + n → bit ws k ≡ 0
+unfolding ones
+ones-none ws a zero k e p q = absurd (omega arith)
+ones-none ws a (suc n) k e p q =
+    by-eq k (a + n) (λ f. ap (bit ws) f ∙ omega arith) (λ ne. ones-none ws a n k (omega arith) p (omega (arith, ne)))

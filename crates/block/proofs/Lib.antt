@@ -1,0 +1,3 @@
+pub mod Flags
+pub mod Window
+pub mod Kept

@@ -1,3 +1,4 @@
 pub mod Record
 pub mod Marking
 pub mod Search
+pub mod Window
