@@ -10,7 +10,7 @@ use lib.Dec.{eqb, lit<}
 use lib.Pow.{pow-pos}
 use Rattle.bits.specs.Bits.{digit}
 use Rattle.bits.proofs.Digits.{digit-zero, digit-suc, digit-lt, digit-and, digit-or, digit-not, digit-pow-same}
-use Rattle.block.specs.Record.{emptyFlag, dirtyFlag, on, off}
+use Rattle.block.specs.Record.{emptyFlag, dirtyFlag, isOn, on, off}
 
 -- a flag 2 ^ j is the digit j
 and-pow : (f j : ℕ) → bitAnd f (2 ^ j) ≡ digit f j * 2 ^ j
@@ -22,10 +22,6 @@ and-pow f (suc j) =
     ∙ ap₂ (λ (x y : ℕ). bitAnd (f / 2) x * 2 + min (f % 2) y) half even
     ∙ ap (λ (x : ℕ). x * 2 + min (f % 2) 0) (and-pow (f / 2) j)
     ∙ omega (arith, ap (λ (x : ℕ). x * 2 ^ suc j) (digit-suc f j), ap (λ (x : ℕ). digit (f / 2) j * x) (pow-suc 2 j), sym (mul-assoc (digit (f / 2) j) (2 ^ j) 2))
-
--- the test of a flag, as in the code
-abbrev pub isOn : ℕ → ℕ → Bool
-isOn f flag = not (eqb (bitAnd f flag) 0)
 
 on-is : (f j : ℕ) → digit f j ≡ 1 → isOn f (2 ^ j) ≡ true
 on-is f j e = ap not (ne-eqb (bitAnd f (2 ^ j)) 0 (λ z. omega (arith, and-pow f j, ap (λ (x : ℕ). x * 2 ^ j) e, pow-pos j)))

@@ -1,6 +1,7 @@
 -- A block's record: its flags, and what callers of the functions on one block can show. Assumes nothing.
 use Prim.Native.Nat.{ℕ, _+_, _-_, _*_, _^_, _≤_, _<_}
-use mathlib.Core.Bool.{Bool}
+use mathlib.Core.Bool.{Bool, not}
+use lib.Dec.{eqb}
 use lib.Bits.{bitAnd, bitOr}
 use Rattle.block.specs.declared.Block.{Block}
 
@@ -10,6 +11,10 @@ emptyFlag = 1
 
 abbrev pub dirtyFlag : ℕ
 dirtyFlag = 2
+
+-- the flag is on
+abbrev pub isOn : ℕ → ℕ → Bool
+isOn flags flag = not (eqb (bitAnd flags flag) 0)
 
 abbrev pub on : ℕ → ℕ → ℕ
 on flags flag = bitOr flags flag

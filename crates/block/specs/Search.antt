@@ -1,9 +1,8 @@
 -- Document 01, Search, in one block. Assumes nothing.
 use Prim.Native.Nat.{ℕ, _+_, _-_}
-use mathlib.Core.Bool.{Bool, true, false, not}
+use mathlib.Core.Bool.{Bool, true, false}
 use mathlib.Core.List.{List}
-use lib.Bits.{bitAnd}
-use lib.Dec.{leb, eqb}
+use lib.Dec.{leb}
 use Rattle.numbers.specs.Pick.{pick}
 use Rattle.runs.specs.declared.Search.{Search}
 use Rattle.runs.specs.declared.Search.the-variants.{At, Tight, Full}
@@ -12,10 +11,10 @@ use Rattle.slots.specs.Slots.{slotOf}
 use Rattle.block.specs.declared.Block.{Block}
 use Rattle.block.specs.declared.Looked.{Looked}
 use Rattle.block.specs.declared.Looked.the-variants.{Found, Missed}
-use Rattle.block.specs.Record.{dirtyFlag, off, withNumbers}
+use Rattle.block.specs.Record.{dirtyFlag, isOn, off, withNumbers}
 
 abbrev pub isDirty : Block → Bool
-isDirty b = not (eqb (bitAnd (b .flags) dirtyFlag) 0)
+isDirty b = isOn (b .flags) dirtyFlag
 
 -- a block is looked into if its free units are at least n and it is dirty or its largest-run field is at least n
 unfoldable pub looks : Block → ℕ → Bool
