@@ -1,0 +1,4 @@
+pub mod Limits
+pub mod Pools
+pub mod Sizes
+pub mod Edge

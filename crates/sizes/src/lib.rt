@@ -1,0 +1,155 @@
+// Sizes: those that creation accepts, a request's rounded size, the pool that it belongs to, and the size of a new block.
+ghost use mathlib.Core.Path.{_≡_};
+ghost use mathlib.Core.Bool.{true};
+ghost use mathlib.Core.Logic.{_⊎_};
+ghost use Prim.Native.Nat.{_^_, _<_, _≤_};
+ghost use Rattle.sizes.specs.Limits.{isGranularity, granularityInForce, isPowerOfTwo, isBaseSize, baseSizeInForce};
+ghost use Rattle.sizes.specs.Pools.{freshPool, poolOf};
+ghost use Rattle.sizes.specs.Sizes.{rounded, idealSize};
+
+pub const MIN_GRANULARITY: u64 = 64;
+
+pub const MIN_BLOCK_SIZE: u64 = 64 * 1024;
+
+pub const MAX_BLOCK_SIZE: u64 = 32 * 1024 * 1024;
+
+// The Rust's `u32::MAX / 2`.
+pub const MAX_SIZE: u64 = 2_147_483_647;
+
+// ---- what creation accepts
+
+pub fn is_granularity(g: u64) -> bool
+    ensures { λ r. ⌜ r ≡ isGranularity g ⌝ }
+{
+    g == 64 || g == 128 || g == 256
+}
+
+pub fn granularity_in_force(asked: u32) -> u64
+    ensures { λ r. ⌜ r ≡ granularityInForce asked ⌝ }
+{
+    let g = asked as u64;
+    if is_granularity(g) {
+        g
+    } else {
+        MIN_GRANULARITY
+    }
+}
+
+// As the Rust's method of that name, for a number that is not 0: taking 1 away clears the lowest bit that is on.
+fn is_power_of_two(x: u64) -> bool
+    requires { ⌜ 0 < x ⌝ }
+    ensures { λ r. ⌜ r ≡ isPowerOfTwo x ⌝ }
+{
+    x & (x - 1) == 0
+}
+
+pub fn is_base_size(size: u64) -> bool
+    ensures { λ r. ⌜ r ≡ isBaseSize size ⌝ }
+{
+    if size < MIN_BLOCK_SIZE {
+        return false;
+    }
+    if size > MAX_BLOCK_SIZE {
+        return false;
+    }
+    is_power_of_two(size)
+}
+
+// The Rust takes the system's page granularity where the request is not listed.
+pub fn base_size_in_force(asked: u32) -> u64
+    ensures { λ r. ⌜ r ≡ baseSizeInForce asked ⌝ }
+{
+    let size = asked as u64;
+    if is_base_size(size) {
+        size
+    } else {
+        MIN_BLOCK_SIZE
+    }
+}
+
+// ---- pools
+
+// A pool's unit, and of its blocks the count, the count of those that are empty, the sum of areas and the sum of used units.
+// `JitAllocatorPool` in the Rust.
+pub struct Pool {
+    pub granularity: u64,
+    pub blocks: u32,
+    pub empty: u32,
+    pub area: u32,
+    pub used: u32,
+}
+
+impl Pool {
+    pub fn new(granularity: u64) -> Pool
+        ensures { λ r. ⌜ r ≡ freshPool granularity ⌝ }
+    {
+        Pool {
+            granularity,
+            blocks: 0,
+            empty: 0,
+            area: 0,
+            used: 0,
+        }
+    }
+}
+
+// From the last pool down: the first one of whose step the size is a multiple. Pool 0 takes what is left.
+pub fn size_to_pool_id(size: u64, g: u64, pools: usize) -> usize
+    requires { ⌜ (size < 2 ^ 32) × (isGranularity g ≡ true) × ((pools ≡ 1) ⊎ (pools ≡ 3)) ⌝ }
+    ensures { λ r. ⌜ r ≡ poolOf size g pools ⌝ }
+{
+    let mut id = pools - 1;
+    let mut granularity = g << id;
+    while id != 0 {
+        if numbers::align_up(size, granularity) == size {
+            break;
+        }
+        id -= 1;
+        granularity >>= 1;
+    }
+    id
+}
+
+// ---- a request, and a new block for it
+
+pub enum Rounded {
+    To(u64),
+    Refused(u32),
+}
+
+impl Rounded {
+    pub const INVALID_ARGUMENT: u32 = 1;
+
+    pub const TOO_LARGE: u32 = 2;
+}
+
+// No test stands before the rounding: a size that wraps becomes 0, and is refused as 0 is.
+pub fn round_size(size: u64, g: u64) -> Rounded
+    requires { ⌜ 0 < g ⌝ }
+    ensures { λ r. ⌜ r ≡ rounded size g ⌝ }
+{
+    let rounded = numbers::align_up(size, g);
+    if rounded == 0 {
+        return Rounded::Refused(Rounded::INVALID_ARGUMENT);
+    }
+    if rounded > MAX_SIZE {
+        return Rounded::Refused(Rounded::TOO_LARGE);
+    }
+    Rounded::To(rounded)
+}
+
+// `newest` is the size of the pool's newest block, or the base size if it has none. The Rust answers 0 where the rounding wraps:
+// that branch is dead, since within these bounds the answer is never below the request (`ideal-holds`).
+pub fn calculate_ideal_block_size(newest: u64, size: u64) -> u64
+    requires { ⌜ (0 < newest) × (newest ≤ 2 ^ 27) × (size < 2 ^ 32) ⌝ }
+    ensures { λ r. ⌜ r ≡ idealSize newest size ⌝ }
+{
+    let mut ideal = newest;
+    if ideal < MAX_BLOCK_SIZE {
+        ideal = ideal * 2;
+    }
+    if size > ideal {
+        ideal = numbers::align_up(size, ideal);
+    }
+    ideal
+}
