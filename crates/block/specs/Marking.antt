@@ -59,3 +59,18 @@ markReleased w b i e u t = painted (released b i e) (fillSlot w (b .slot) u i (e
 abbrev pub markShrunk : ℕ → Block → ℕ → ℕ → List ℕ → List ℕ → Painted
 markShrunk w b i e u t =
     painted (shrunk b i e) (fillSlot w (b .slot) u i (e - i) 0) (fillSlot w (b .slot) (fillSlot w (b .slot) t (e - 1) 1 0) (i - 1) 1 1)
+
+-- ---- a new block for a span of n units at unit 0, before its marking: window n to the area size, largest-run field the area size less n
+abbrev pub fresh : ℕ → ℕ → ℕ → ℕ → ℕ → ℕ → Block
+fresh base size pool slot area n = record {
+  base = base;
+  size = size;
+  pool = pool;
+  slot = slot;
+  flags = 0;
+  area = area;
+  used = 0;
+  start = n;
+  end = area;
+  largest = area - n;
+}

@@ -3,7 +3,7 @@ ghost use mathlib.Core.Path.{_≡_};
 ghost use Prim.Native.Nat.{_+_, _-_, _<_, _≤_, min, max};
 ghost use lib.ListN.{length};
 ghost use Rattle.block.specs.Record.{Placed, SpanIn};
-ghost use Rattle.block.specs.Marking.{moved, marked, released, shrunk, painted, markAllocated, markReleased, markShrunk};
+ghost use Rattle.block.specs.Marking.{moved, marked, released, shrunk, fresh, painted, markAllocated, markReleased, markShrunk};
 ghost use Rattle.block.specs.Search.{isDirty, looks, tightened, lookInto};
 
 // A block of `area` units from address `base` on. Its maps are the words of slot `slot`. `start` and `end` are its search window,
@@ -101,6 +101,25 @@ fn shrunk_record(b: Block, from: u32, to: u32) -> Block
     r.end = greater(b.end, to);
     r.flags = b.flags | Block::FLAG_DIRTY;
     r
+}
+
+// A new block for a span of `n` units at unit 0, before its marking.
+pub fn new_block(base: u64, size: u64, pool: usize, slot: usize, area: u32, n: u32) -> Block
+    requires { ⌜ n ≤ area ⌝ }
+    ensures { λ r. ⌜ r ≡ fresh base size pool slot area n ⌝ }
+{
+    Block {
+        base,
+        size,
+        pool,
+        slot,
+        flags: 0,
+        area,
+        used: 0,
+        start: n,
+        end: area,
+        largest: area - n,
+    }
 }
 
 // The units from `from` up to `to` become a span: used bits on, and the stop bit on at the last one.

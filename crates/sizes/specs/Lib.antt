@@ -1,4 +1,3 @@
 pub mod Limits
 pub mod Pools
 pub mod Sizes
-pub mod Edge

@@ -2,13 +2,15 @@
 use mathlib.Core.Path.{_≡_, refl}
 use mathlib.Core.Bool.{Bool, true, false, _&&_}
 use mathlib.Core.List.{List, [], _∷_}
-use Prim.Native.Nat.{ℕ, _-_, _^_}
+use Prim.Native.Nat.{ℕ, _-_, _*_, _^_}
 use lib.Dec.{eqb}
 use Rattle.numbers.specs.Units.{unitsOf}
 use Rattle.sizes.specs.declared.Rounded.{Rounded}
 use Rattle.sizes.specs.declared.Rounded.the-variants.{To, Refused}
+use Rattle.block.specs.declared.Block.{Block}
+use Rattle.block.specs.Marking.{fresh, marked}
 use Rattle.sizes.specs.Pools.{poolOf}
 use Rattle.sizes.specs.Sizes.{rounded, idealSize}
 
 -- what a figure is of; requests are as they come, not rounded
 pub data Figure : Type 0 where
@@ -20,8 +22,8 @@ pub data Figure : Type 0 where
   first : ℕ → Figure
   -- two requests, the second of which has a block made too: its span and that block
   second : ℕ → ℕ → Figure
-  -- the first request of a pool: its units, and those of the block made for it; the block is full if they are equal
-  filling : ℕ → Figure
+  -- the first request of a pool: its block's area and used count, window start and end, and largest run, once it is marked
+  marking : ℕ → Figure
 
 -- a refusal's number, or 0 and the rounded size
 abbrev pub told : Rounded → List ℕ
@@ -38,12 +40,19 @@ span asked = bytes (rounded asked 64)
 abbrev pub firstBlock : ℕ → ℕ
 firstBlock asked = idealSize 65536 (span asked)
 
+-- the first block, of so many units, with a span of n at unit 0
+abbrev pub firstMarked : ℕ → ℕ → Block
+firstMarked area n = marked (fresh 65536 (area * 64) 0 0 area n) 0 n
+
+abbrev pub counts : Block → List ℕ
+counts b = b .area ∷ b .used ∷ b .start ∷ b .end ∷ b .largest ∷ []
+
 abbrev pub shown : Figure → List ℕ
 shown (rounding asked) = told (rounded asked 64)
 shown (choosing asked) = poolOf (span asked) 64 3 ∷ []
 shown (first asked) = span asked ∷ firstBlock asked ∷ []
 shown (second before asked) = span asked ∷ idealSize (firstBlock before) (span asked) ∷ []
-shown (filling asked) = unitsOf (span asked) 64 ∷ unitsOf (firstBlock asked) 64 ∷ []
+shown (marking asked) = counts (firstMarked (unitsOf (firstBlock asked) 64) (unitsOf (span asked) 64))
 
 pub record Row : Type 0 where
   pub figure : Figure
@@ -64,7 +73,7 @@ rows =
     ∷ row (first 64) (64 ∷ 131072 ∷ [])
     ∷ row (first 300000) (300032 ∷ 393216 ∷ [])
     ∷ row (second 300000 1000000) (1000000 ∷ 1048576 ∷ [])
-    ∷ row (filling 131072) (2048 ∷ 2048 ∷ [])
+    ∷ row (marking 131072) (2048 ∷ 2048 ∷ 2048 ∷ 0 ∷ 0 ∷ [])
     ∷ []
 
 abbrev pub same : List ℕ → List ℕ → Bool
@@ -78,5 +87,5 @@ allRight [] = true
 allRight (r ∷ rs) = same (shown (r .figure)) (r .wanted) && allRight rs
 
 pub rows-right : allRight rows ≡ true
-unfolding rows rounded poolOf idealSize
+unfolding rows rounded poolOf idealSize marked
 rows-right = refl

@@ -1,0 +1,4 @@
+pub mod Tests
+pub mod Find
+pub mod Lists
+pub mod Lengths

@@ -1,0 +1,79 @@
+-- A block enters the table or leaves it: records by age, positions by address, zeros behind both, and its pool's block count and area. Assumes nothing.
+use Prim.Native.Nat.{ℕ, zero, suc, _+_, _-_}
+use mathlib.Core.Bool.{Bool}
+use mathlib.Core.List.{List, [], _∷_}
+use lib.Dec.{ltb, eqb}
+use lib.ListN.{getD, set}
+use Rattle.numbers.specs.Pick.{pick}
+use Rattle.block.specs.declared.Block.{Block}
+use Rattle.sizes.specs.declared.Pool.{Pool}
+use Rattle.state.specs.declared.State.{State}
+use Rattle.state.specs.declared.Found.{Found}
+use Rattle.state.specs.declared.Found.the-variants.{At, Nothing}
+use Rattle.state.specs.Table.{zeroBlock, blockAt, ageAt, poolAt}
+use Rattle.state.specs.Find.{least}
+
+-- the list of f k for the n numbers from k on
+unfoldable pub listFrom : {A : Type 0} → ℕ → ℕ → (ℕ → A) → List A
+listFrom k zero f = []
+listFrom k (suc n) f = f k ∷ listFrom (suc k) n f
+
+abbrev pub orElse : ℕ → Found → ℕ
+orElse n (At k) = k
+orElse n Nothing = n
+
+abbrev pub withTable : State → ℕ → List Block → List ℕ → List Pool → State
+withTable s count blocks order pool = record {
+  size = s .size;
+  g = s .g;
+  pools = s .pools;
+  immediate = s .immediate;
+  w = s .w;
+  slots = s .slots;
+  arena = s .arena;
+  length = s .length;
+  live = s .live;
+  count = count;
+  blocks = blocks;
+  order = order;
+  pool = pool;
+}
+
+-- a pool with other sums of blocks and areas
+abbrev pub withBlocks : Pool → ℕ → ℕ → Pool
+withBlocks p blocks area = record { granularity = p .granularity; blocks = blocks; empty = p .empty; area = area; used = p .used }
+
+-- ---- a block enters: it is the newest, and stands in the order of address before the first one of higher base
+abbrev pub placeOf : State → Block → ℕ
+placeOf s b = orElse (s .count) (least (s .count) (λ k. ltb (b .base) (blockAt s (ageAt s k) .base)))
+
+-- what stands at place j once age stands at place k, and those from there on move up by one
+abbrev pub movedUp : List ℕ → ℕ → ℕ → ℕ → ℕ
+movedUp order k age j = pick (ltb j k) (getD order j 0) (pick (eqb j k) age (getD order (j - 1) 0))
+
+abbrev pub inserted : State → Block → State
+inserted s b =
+    withTable s (s .count + 1) (set (s .blocks) (s .count) b) (listFrom 0 64 (movedUp (s .order) (placeOf s b) (s .count)))
+    (set (s .pool) (b .pool) (withBlocks (poolAt s (b .pool)) (poolAt s (b .pool) .blocks + 1) (poolAt s (b .pool) .area + b .area)))
+
+-- ---- the block of age i leaves: later records move up, later positions fall by one, zeros behind
+-- the next but for what stands before i
+abbrev pub past : ℕ → ℕ → ℕ
+past i k = pick (ltb k i) k (k + 1)
+
+abbrev pub fallen : ℕ → ℕ → ℕ
+fallen i age = pick (ltb i age) (age - 1) age
+
+-- where it stands in the order of address
+abbrev pub placeIn : List ℕ → ℕ → ℕ → ℕ
+placeIn order count i = orElse count (least count (λ k. eqb (getD order k 0) i))
+
+abbrev pub placeOfAge : State → ℕ → ℕ
+placeOfAge s i = placeIn (s .order) (s .count) i
+
+abbrev pub removed : State → ℕ → State
+removed s i =
+    withTable s (s .count - 1) (listFrom 0 64 (λ k. getD (s .blocks) (past i k) zeroBlock))
+    (listFrom 0 64 (λ k. fallen i (getD (s .order) (past (placeOfAge s i) k) 0)))
+    (set (s .pool) (blockAt s i .pool)
+    (withBlocks (poolAt s (blockAt s i .pool)) (poolAt s (blockAt s i .pool) .blocks - 1) (poolAt s (blockAt s i .pool) .area - blockAt s i .area)))

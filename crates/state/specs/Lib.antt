@@ -1,0 +1,4 @@
+pub mod Table
+pub mod Shape
+pub mod Find
+pub mod Change

@@ -1,0 +1,79 @@
+// The allocator's record: what creation fixed, the blocks in order of age, their positions in order of address, and the pools.
+use block::Block;
+use sizes::Pool;
+ghost use mathlib.Core.Path.{_≡_};
+ghost use Rattle.state.specs.Table.{zeroBlock, zeroState};
+
+// How many blocks the table holds, and so the most slots that are ever in force.
+pub const SLOT_LIMIT: usize = 64;
+
+pub struct State {
+    // the base block size, the granularity, how many pools and whether empty blocks go at once, as in force
+    pub size: u64,
+    pub g: u64,
+    pub pools: usize,
+    pub immediate: bool,
+    // words to a slot, and slots
+    pub w: usize,
+    pub slots: usize,
+    // where the arena starts, and its length
+    pub arena: u64,
+    pub length: u64,
+    // live spans, and standing blocks
+    pub live: u64,
+    pub count: usize,
+    // the blocks by age; `order` has their positions by rising base. Zeros behind both.
+    pub blocks: [Block; 64],
+    pub order: [usize; 64],
+    pub pool: [Pool; 3],
+}
+
+// What a search of the table finds: an age or a slot.
+pub enum Found {
+    At(usize),
+    Nothing,
+}
+
+// Where a new block can stand.
+pub enum Place {
+    Address(u64),
+    Nowhere,
+}
+
+pub fn zero_block() -> Block
+    ensures { λ r. ⌜ r ≡ zeroBlock ⌝ }
+{
+    Block {
+        base: 0,
+        size: 0,
+        pool: 0,
+        slot: 0,
+        flags: 0,
+        area: 0,
+        used: 0,
+        start: 0,
+        end: 0,
+        largest: 0,
+    }
+}
+
+// The record of zeros that a refused creation hands back.
+pub fn zero_state() -> State
+    ensures { λ r. ⌜ r ≡ zeroState ⌝ }
+{
+    State {
+        size: 0,
+        g: 0,
+        pools: 0,
+        immediate: false,
+        w: 0,
+        slots: 0,
+        arena: 0,
+        length: 0,
+        live: 0,
+        count: 0,
+        blocks: [zero_block(); 64],
+        order: [0; 64],
+        pool: [Pool::new(0); 3],
+    }
+}

@@ -1,0 +1,105 @@
+// What the calls ask of the table: the block at an address, the lowest free slot, the lowest place for a new block, the newest block of a pool.
+// Each walks the table once.
+use block::Block;
+use state::Found;
+use state::Place;
+use state::State;
+ghost use mathlib.Core.Path.{_≡_};
+ghost use Prim.Native.Nat.{_+_, _≤_, _<_};
+ghost use Rattle.state.specs.Find.{lookup, lowestSlot, lowestPlace, newestSize};
+ghost use Rattle.table.specs.Ordered.{Ordered, Arranged, Slotted, Taken};
+
+// The size to start a new block of a pool from: its newest block's, or the base size if it has none.
+pub fn newest_size(s: State, pool: usize) -> u64
+    requires { ⌜ s .count ≤ 64 ⌝ }
+    ensures { λ r. ⌜ r ≡ newestSize s pool ⌝ }
+{
+    let mut size = s.size;
+    let mut i: usize = 0;
+    while i < s.count {
+        let b = s.blocks[i];
+        if b.pool == pool {
+            size = b.size;
+        }
+        i += 1;
+    }
+    size
+}
+
+// The block that holds an address: the address order is halved until one is left.
+pub fn lookup_block(s: State, address: u64) -> Found
+    requires { ⌜ Ordered s ⌝ }
+    ensures { λ r. ⌜ r ≡ lookup s address ⌝ }
+{
+    let mut low: usize = 0;
+    let mut high = s.count;
+    while low < high {
+        let mid = low + (high - low) / 2;
+        let i = s.order[mid];
+        let b = s.blocks[i];
+        if address < b.base {
+            high = mid;
+        } else {
+            if address - b.base < b.size {
+                return Found::At(i);
+            }
+            low = mid + 1;
+        }
+    }
+    Found::Nothing
+}
+
+// The slots that standing blocks have.
+fn taken_slots(s: State) -> [bool; 64]
+    requires { ⌜ Slotted s ⌝ }
+    ensures { λ r. ⌜ Taken s (s .count) r ⌝ }
+{
+    let mut taken = [false; 64];
+    let mut i: usize = 0;
+    while i < s.count {
+        let b = s.blocks[i];
+        let slot = b.slot;
+        taken[slot] = true;
+        i += 1;
+    }
+    taken
+}
+
+// The lowest slot that no standing block has.
+pub fn lowest_free_slot(s: State) -> Found
+    requires { ⌜ Slotted s ⌝ }
+    ensures { λ r. ⌜ r ≡ lowestSlot s ⌝ }
+{
+    let taken = taken_slots(s);
+    let mut k: usize = 0;
+    while k < s.slots {
+        if !taken[k] {
+            return Found::At(k);
+        }
+        k += 1;
+    }
+    Found::Nothing
+}
+
+// The lowest place in the arena for a block of `size` bytes: the first gap between standing blocks, in order of address, that holds it, from a
+// multiple of 65,536 on; or behind the last.
+pub fn lowest_place(s: State, size: u64) -> Place
+    requires { ⌜ Arranged s × (0 < size) × (size < 4294967296) ⌝ }
+    ensures { λ r. ⌜ r ≡ lowestPlace s size ⌝ }
+{
+    let mut at = s.arena;
+    let mut k: usize = 0;
+    while k < s.count {
+        let i = s.order[k];
+        let b = s.blocks[i];
+        if at + size <= b.base {
+            return Place::Address(at);
+        }
+        at = numbers::align_up(b.base + b.size, 65536);
+        k += 1;
+    }
+    if at + size <= s.arena + s.length {
+        return Place::Address(at);
+    }
+    Place::Nowhere
+}
