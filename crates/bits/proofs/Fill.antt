@@ -1,17 +1,18 @@
 -- Laws of runs of bits that are filled or cleared: step by step, in a part of the words, as the function `filled`; no second outcome. Assumes nothing.
 use Prim.Native.Nat.{ℕ, zero, suc, _+_, _-_, _*_, _/_, _%_, _^_, _≤_, _<_}
-use mathlib.Core.Path.{_≡_, refl, sym, ap, ap₂, _∙_, subst}
-use mathlib.Core.Logic.{_⊎_, inl, inr, ⊎-elim}
+use mathlib.Core.Path.{_≡_, refl, sym, ap, _∙_, subst}
+use mathlib.Core.Logic.{⊎-elim}
 use mathlib.Core.List.{List, _++_, append-nil}
-use native.Mathlib.Nat.{zero-lt-suc}
 use native.Mathlib.Omega.{arith}
 use native.Mathlib.Numerals.{add-one}
-use lib.ListN.{length, take, drop, length-append, length-drop, take-append-drop}
+use lib.Dec.{lit<}
+use lib.ListN.{length, getD, take, drop, replicate, length-append, length-drop, length-replicate, take-append-drop}
 use lib.Seq.{length-take-le, take-all, drop-length}
 use borrow.Rule.Slice.PartMut.{midOf, putMid, post-is}
-use Rattle.numbers.proofs.Split.{le-or-lt, eq-or-ne}
-use Rattle.bits.specs.Bits.{bit, setBit, filled, Filled, Words}
-use Rattle.bits.proofs.Words.{bit-past, bit-front, bit-behind, bit-drop, bit-take, length-setBit, bit-set-same, bit-set-other, words-setBit, words-ext}
+use Rattle.numbers.proofs.Split.{le-or-lt}
+use Rattle.bits.specs.Bits.{digit, bit, setBit, filled, Filled, Words}
+use Rattle.bits.proofs.Digits.{digit-of-zero}
+use Rattle.bits.proofs.Words.{bit-front, bit-behind, length-setBit, bit-set-same, bit-set-other, words-setBit, words-ext}
 
 -- ---- a run grows by one bit
 pub filled-none : (ws : List ℕ) (a v : ℕ) → Filled ws a 0 v ws
@@ -107,3 +108,22 @@ length-filled ws a (suc n) v = length-setBit (filled ws a n v) (a + n) v ∙ len
 -- whoever has the bits of the filled words is the filled words
 pub filled-is : {ws vs : List ℕ} {a n v : ℕ} → Filled ws a n v vs → Words ws → Words vs → v < 2 → a + n ≤ 32 * length ws → vs ≡ filled ws a n v
 filled-is {ws} {vs} {a} {n} {v} f hw hv h l = filled-unique f (filled-has ws a n v h l) hv (words-filled ws a n v hw h)
+
+-- ---- all words cleared
+zeros-at : (n i : ℕ) → _≡_ {A = ℕ} (getD (replicate n 0) i 0) 0
+zeros-at zero i = refl
+zeros-at (suc n) zero = refl
+zeros-at (suc n) (suc i) = zeros-at n i
+
+pub bit-zeros : (n k : ℕ) → bit (replicate n 0) k ≡ 0
+unfolding bit
+bit-zeros n k = ap (λ (x : ℕ). digit x (k % 32)) (zeros-at n (k / 32)) ∙ digit-of-zero (k % 32)
+
+pub words-zeros : (n : ℕ) → Words (replicate n 0)
+words-zeros n i = subst (λ (x : ℕ). x < 2 ^ 32) (sym (zeros-at n i)) (lit< tt)
+
+pub filled-cleared : (ws : List ℕ) → Words ws → filled ws 0 (32 * length ws) 0 ≡ replicate (length ws) 0
+filled-cleared ws h =
+    let f = filled-has ws 0 (32 * length ws) 0 (lit< tt) (omega arith) in
+    words-ext (filled ws 0 (32 * length ws) 0) (replicate (length ws) 0) (f .size ∙ sym (length-replicate {A = ℕ} (length ws) 0)) (words-filled ws 0 (32 * length ws) 0 h (lit< tt))
+    (words-zeros (length ws)) (λ k q. f .inside k (omega arith) (omega (arith, f .size)) ∙ sym (bit-zeros (length ws) k))

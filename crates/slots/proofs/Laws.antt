@@ -6,11 +6,12 @@ use mathlib.Core.Path.{_≡_, sym, ap, ap₂, subst, _∙_}
 use native.Mathlib.Nat.{mul-le-mul-right, suc-mul}
 use native.Mathlib.Omega.{arith}
 use lib.Dec.{lit<}
-use lib.ListN.{length, getD, take, drop, length-append, length-take, length-drop, List·getD-append, List·getD-eq-default}
+use lib.ListN.{length, getD, take, drop, replicate, length-append, length-take, length-drop, List·getD-append, List·getD-eq-default}
 use lib.Seq.{length-take-le, take-at, drop-at, getD-take, getD-drop, ext-getD, getD-append-add}
 use borrow.Rule.Slice.PartMut.{put-same}
 use Rattle.numbers.proofs.Split.{le-or-lt}
-use Rattle.bits.specs.Bits.{Words}
+use Rattle.bits.specs.Bits.{filled, Words}
+use Rattle.bits.proofs.Fill.{filled-cleared}
 use Rattle.slots.specs.Slots.{slotOf, putSlot}
 
 pub length-slot : (w s : ℕ) (ws : List ℕ) → (s + 1) * w ≤ length ws → length (slotOf w s ws) ≡ w
@@ -103,3 +104,9 @@ slot-other w s r ws x h e ne g =
     (λ i q.
     let y : i < w = omega arith in
     slot-word w r (putSlot w s ws x) i y ∙ put-slot-out w s ws x h e (r * w + i) (slots-apart w s r i ne y) ∙ sym (slot-word w r ws i y))
+
+-- every unit of a slot cleared: its words are zero
+pub slot-cleared : (w s : ℕ) (ws : List ℕ) → (s + 1) * w ≤ length ws → Words ws → filled (slotOf w s ws) 0 (32 * w) 0 ≡ replicate w 0
+slot-cleared w s ws h f =
+    let e = length-slot w s ws h in
+    ap (λ (n : ℕ). filled (slotOf w s ws) 0 (32 * n) 0) (sym e) ∙ filled-cleared (slotOf w s ws) (words-slot w s ws f) ∙ ap (λ (n : ℕ). replicate n 0) e

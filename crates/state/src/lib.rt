@@ -77,3 +77,55 @@ pub fn zero_state() -> State
         pool: [Pool::new(0); 3],
     }
 }
+
+// A piece of memory: its address, and its size in bytes.
+pub struct Span {
+    pub address: u64,
+    pub size: u64,
+}
+
+// Document 01's refusals but for the trace's own; `number` of rules/specs/Answers.antt has their numbers.
+pub enum Refusal {
+    InvalidArgument,
+    TooLarge,
+    InvalidState,
+    NoMapping,
+    BadShape,
+    Damaged,
+}
+
+// What a call answers. `Created` has the base size, the granularity and the pools in force.
+pub enum Answer {
+    Created(u64, u64, usize),
+    Granted(Span),
+    Released(Span),
+    Shrunk(Span),
+    Shown(Span),
+    Reset,
+    Refused(Refusal),
+}
+
+// What stands at an address of a block: no span starts there; one does, and no stop bit follows; or the span's units, from the first up to the end.
+pub enum Held {
+    NoSpan,
+    NoStop,
+    Units(u32, u32),
+}
+
+// A place that a search of a pool found: a block's age and a unit in it.
+pub enum Hit {
+    At(usize, u32),
+    Nowhere,
+}
+
+// What a search of a pool leaves: the place, and the record with the windows that it tightened.
+pub struct Searched {
+    pub hit: Hit,
+    pub state: State,
+}
+
+// What a call hands back beside the two maps.
+pub struct Outcome {
+    pub answer: Answer,
+    pub state: State,
+}

@@ -1,0 +1,36 @@
+// The call query.
+use state::Answer;
+use state::Found;
+use state::Held;
+use state::Refusal;
+use state::Span;
+use state::State;
+ghost use mathlib.Core.Path.{_≡_};
+ghost use lib.ListN.{length};
+ghost use Rattle.rules.specs.Span.{queryTurn};
+
+// The span that starts at an address. Nothing changes.
+pub fn query(s: State, used: &[u32], stop: &[u32], address: u64) -> Answer
+    ensures { λ r. ⌜ r ≡ queryTurn s (now (used .entry)) (now (stop .entry)) address .answer ⌝ }
+{
+    if !shape::shape_ok(s, used.len(), stop.len()) {
+        return Answer::Refused(Refusal::BadShape);
+    }
+    let found = table::lookup_block(s, address);
+    let Found::At(j) = found else {
+        return Answer::Refused(Refusal::InvalidArgument);
+    };
+    let b = s.blocks[j];
+    let p = b.pool;
+    let pool = s.pool[p];
+    let unit = pool.granularity;
+    let held = spans::held_in(b, used, stop, s.w, unit, address);
+    match held {
+        Held::NoSpan => Answer::Refused(Refusal::InvalidArgument),
+        Held::NoStop => Answer::Refused(Refusal::Damaged),
+        Held::Units(i, e) => {
+            let size = numbers::byte_size_from_area_size(e - i, unit);
+            Answer::Shown(Span { address, size })
+        }
+    }
+}

@@ -1,0 +1,77 @@
+-- What a call leaves: its answer, the record and the two maps; the refusals by their numbers; and the record with a part of it changed. Assumes nothing.
+use Prim.Native.Nat.{ℕ, _+_, _-_, _*_}
+use mathlib.Core.List.{List}
+use lib.ListN.{set, replicate}
+use Rattle.slots.specs.Slots.{putSlot}
+use Rattle.block.specs.declared.Block.{Block}
+use Rattle.sizes.specs.declared.Pool.{Pool}
+use Rattle.state.specs.declared.State.{State}
+use Rattle.state.specs.declared.Span.{Span}
+use Rattle.state.specs.declared.Refusal.{Refusal}
+use Rattle.state.specs.declared.Refusal.the-variants.{InvalidArgument, TooLarge, InvalidState, NoMapping, BadShape, Damaged}
+use Rattle.state.specs.declared.Answer.{Answer}
+use Rattle.state.specs.declared.Answer.the-variants.{Refused}
+use Rattle.state.specs.Table.{blockAt, poolAt}
+use Rattle.state.specs.Change.{withTable}
+
+-- ---- the numbers of the refusals
+abbrev pub number : Refusal → ℕ
+number InvalidArgument = 1
+number TooLarge = 2
+number InvalidState = 3
+number NoMapping = 4
+number BadShape = 5
+number Damaged = 6
+
+-- ---- a turn
+pub record Turn : Type 0 where
+  pub answer : Answer
+  pub state : State
+  pub used : List ℕ
+  pub stop : List ℕ
+
+abbrev pub turn : Answer → State → List ℕ → List ℕ → Turn
+turn answer s u t = record { answer = answer; state = s; used = u; stop = t }
+
+-- nothing changes
+abbrev pub refuse : Refusal → State → List ℕ → List ℕ → Turn
+refuse r s u t = turn (Refused r) s u t
+
+abbrev pub span : ℕ → ℕ → Span
+span address size = record { address = address; size = size }
+
+-- ---- the record with one thing changed
+abbrev pub putBlock : State → ℕ → Block → State
+putBlock s i b = withTable s (s .count) (set (s .blocks) i b) (s .order) (s .pool)
+
+abbrev pub putPool : State → ℕ → Pool → State
+putPool s p q = withTable s (s .count) (s .blocks) (s .order) (set (s .pool) p q)
+
+abbrev pub withLive : State → ℕ → State
+withLive s live = record {
+  size = s .size;
+  g = s .g;
+  pools = s .pools;
+  immediate = s .immediate;
+  w = s .w;
+  slots = s .slots;
+  arena = s .arena;
+  length = s .length;
+  live = live;
+  count = s .count;
+  blocks = s .blocks;
+  order = s .order;
+  pool = s .pool;
+}
+
+-- a pool with other counts of empty blocks and used units
+abbrev pub withCounts : Pool → ℕ → ℕ → Pool
+withCounts p empty used = record { granularity = p .granularity; blocks = p .blocks; empty = empty; area = p .area; used = used }
+
+-- the unit of a block's pool
+abbrev pub unitOf : State → Block → ℕ
+unitOf s b = poolAt s (b .pool) .granularity
+
+-- a slot's words cleared
+abbrev pub clearSlot : ℕ → ℕ → List ℕ → List ℕ
+clearSlot w slot ws = putSlot w slot ws (replicate w 0)

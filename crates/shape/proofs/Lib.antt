@@ -1,0 +1,13 @@
+pub mod Bools
+pub mod Head
+pub mod Sound
+pub mod Sums
+pub mod Slots
+pub mod Pigeon
+pub mod Order
+pub mod Address
+pub mod Walk
+pub mod Zeros
+pub mod Whole
+pub mod Shaped
+pub mod Enough

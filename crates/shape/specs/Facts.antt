@@ -1,0 +1,73 @@
+-- What the parts of the test say, as plain facts. Assumes nothing.
+use Prim.Native.Nat.{ℕ, _+_, _*_, _%_, _^_, _≤_, _<_}
+use mathlib.Core.Path.{_≡_}
+use mathlib.Core.Bool.{true}
+use mathlib.Core.Logic.{_⊎_}
+use Rattle.block.specs.declared.Block.{Block}
+use Rattle.sizes.specs.declared.Pool.{Pool}
+use Rattle.sizes.specs.Limits.{isBaseSize}
+use Rattle.state.specs.declared.State.{State}
+use Rattle.state.specs.Table.{blockAt}
+use Rattle.state.specs.Shape.{isEmpty}
+
+-- the numbers in the record
+pub record Headed (s : State) : Type 0 where
+  pub size-good : isBaseSize (s .size) ≡ true
+  pub size-low : 65536 ≤ s .size
+  pub size-high : s .size ≤ 33554432
+  pub g-listed : (s .g ≡ 64) ⊎ ((s .g ≡ 128) ⊎ (s .g ≡ 256))
+  pub g-low : 64 ≤ s .g
+  pub g-high : s .g ≤ 256
+  pub pools-listed : (s .pools ≡ 1) ⊎ (s .pools ≡ 3)
+  pub pools-low : 1 ≤ s .pools
+  pub pools-high : s .pools ≤ 3
+  pub w-low : 1 ≤ s .w
+  pub w-high : s .w ≤ 16384
+  pub arena-low : 0 < s .arena
+  pub arena-even : s .arena % 65536 ≡ 0
+  pub length-low : 0 < s .length
+  pub length-even : s .length % 65536 ≡ 0
+  pub top : s .arena + s .length ≤ 2 ^ 48
+  pub slots-low : 1 ≤ s .slots
+  pub slots-high : s .slots ≤ 64
+  pub count-slots : s .count ≤ s .slots
+
+-- the two slices
+pub record Lent (s : State) (usedWords stopWords : ℕ) : Type 0 where
+  pub used-room : s .slots * s .w ≤ usedWords
+  pub stop-room : s .slots * s .w ≤ stopWords
+
+-- one block
+pub record Sound (g pools w slots arena length : ℕ) (b : Block) : Type 0 where
+  pub slot : b .slot < slots
+  pub pool : b .pool < pools
+  pub base : b .base % 65536 ≡ 0
+  pub area-low : 0 < b .area
+  pub area-even : b .area % 32 ≡ 0
+  pub area-size : b .area * g ≡ b .size
+  pub area-high : b .area ≤ 32 * w
+  pub used : b .used ≤ b .area
+  pub start : b .start ≤ b .area
+  pub end : b .end ≤ b .area
+  pub largest : b .largest ≤ b .area
+  pub above : arena ≤ b .base
+  pub below : b .base + b .size ≤ arena + length
+  pub empty-unused : isEmpty b ≡ true → b .used ≡ 0
+  pub unused-empty : b .used ≡ 0 → isEmpty b ≡ true
+  pub flags : b .flags ≤ 3
+
+abbrev pub SoundIn : State → Block → Type 0
+SoundIn s b = Sound (s .g) (s .pools) (s .w) (s .slots) (s .arena) (s .length) b
+
+-- one block more fits the pool's sums
+pub record Countable (q : Pool) (b : Block) : Type 0 where
+  pub blocks : q .blocks < 2 ^ 31
+  pub empty : q .empty < 2 ^ 31
+  pub area : q .area + b .area < 2 ^ 32
+  pub used : q .used + b .used < 2 ^ 32
+
+-- what the walk by address asks of the blocks
+pub record Laid (s : State) : Type 0 where
+  pub count : s .count ≤ 64
+  pub sized : (i : ℕ) → i < s .count → 0 < blockAt s i .size
+  pub top : (i : ℕ) → i < s .count → blockAt s i .base + blockAt s i .size ≤ 2 ^ 48

@@ -1,0 +1,61 @@
+// What stands at an address of a block: whether a span starts there, and where it ends.
+use block::Block;
+use state::Held;
+ghost use mathlib.Core.Path.{_≡_};
+ghost use Prim.Native.Nat.{_+_, _-_, _*_, _/_, _%_, _^_, _≤_, _<_};
+ghost use lib.Dec.{eqb};
+ghost use lib.ListN.{length};
+ghost use Rattle.numbers.specs.Pick.{pick};
+ghost use Rattle.slots.specs.Slots.{slotOf};
+ghost use Rattle.block.specs.Record.{Placed};
+ghost use Rattle.rules.specs.Span.{starts, heldAt, heldOf};
+ghost use Rattle.spans.specs.Within.{Within};
+
+// A span starts at a used unit that is unit 0, or behind a free one, or behind one with a stop bit.
+fn is_start(used: &[u32], stop: &[u32], unit: usize) -> bool
+    requires { ⌜ (unit < 32 * length (now used)) × (unit < 32 * length (now stop)) ⌝ }
+    ensures { λ r. ⌜ r ≡ starts (now (used .entry)) (now (stop .entry)) unit ⌝ }
+{
+    if !bits::bit_vector_get_bit(used, unit) {
+        return false;
+    }
+    if unit == 0 {
+        return true;
+    }
+    if !bits::bit_vector_get_bit(used, unit - 1) {
+        return true;
+    }
+    bits::bit_vector_get_bit(stop, unit - 1)
+}
+
+// What stands at a unit of a block, by its words.
+fn held_at(used: &[u32], stop: &[u32], area: u32, unit: u32) -> Held
+    requires { ⌜ (unit < area) × (area ≤ 32 * length (now used)) × (area ≤ 32 * length (now stop)) × (length (now stop) < 2 ^ 32) ⌝ }
+    ensures { λ r. ⌜ r ≡ heldAt (now (used .entry)) (now (stop .entry)) area unit ⌝ }
+{
+    let at = unit as usize;
+    if !is_start(used, stop, at) {
+        return Held::NoSpan;
+    }
+    let last = bits::bit_vector_index_of(stop, at, true);
+    if (area as usize) <= last {
+        return Held::NoStop;
+    }
+    Held::Units(unit, last as u32 + 1)
+}
+
+// What stands at an address of a block whose units have `unit` bytes.
+pub fn held_in(b: Block, used: &[u32], stop: &[u32], w: usize, unit: u64, address: u64) -> Held
+    requires { ⌜ Placed b w (length (now used)) (length (now stop)) × Within b unit address ⌝ }
+    ensures { λ r. ⌜ r ≡ heldOf w b unit (now (used .entry)) (now (stop .entry)) address ⌝ }
+{
+    let offset = address - b.base;
+    if offset % unit != 0 {
+        return Held::NoSpan;
+    }
+    let at = numbers::area_size_from_byte_size(offset, unit);
+    let slot = b.slot;
+    let mine = slots::slot(used, slot, w);
+    let ends = slots::slot(stop, slot, w);
+    held_at(mine, ends, b.area, at)
+}
