@@ -48,8 +48,8 @@ searchFrom u p n i zero s = searched Nowhere s
 searchFrom u p n i (suc k) s =
     pick (inPool s p i) (after s i (searchFrom u p n (suc i) k) (lookInto (s .w) (blockAt s i) u n)) (searchFrom u p n (suc i) k s)
 
-abbrev pub search : State → List ℕ → ℕ → ℕ → Searched
-search s u p n = searchFrom u p n 0 (s .count) s
+abbrev pub searchPool : State → List ℕ → ℕ → ℕ → Searched
+searchPool s u p n = searchFrom u p n 0 (s .count) s
 
 -- ---- Marking: n units from unit i on of block j
 abbrev pub markTurn : State → List ℕ → List ℕ → ℕ → ℕ → ℕ → Turn
@@ -86,8 +86,8 @@ searchedTurn s u t p n size Nowhere = newTurn s u t p n (idealSize (newestSize s
 -- size is rounded, and its pool chosen
 abbrev pub poolTurn : State → List ℕ → List ℕ → ℕ → ℕ → Turn
 poolTurn s u t size p =
-    searchedTurn (search s u p (unitsOf size (poolAt s p .granularity)) .state) u t p (unitsOf size (poolAt s p .granularity)) size
-    (search s u p (unitsOf size (poolAt s p .granularity)) .hit)
+    searchedTurn (searchPool s u p (unitsOf size (poolAt s p .granularity)) .state) u t p (unitsOf size (poolAt s p .granularity)) size
+    (searchPool s u p (unitsOf size (poolAt s p .granularity)) .hit)
 
 abbrev pub sizeTurn : State → List ℕ → List ℕ → Rounded → Turn
 sizeTurn s u t (To size) = poolTurn s u t size (poolOf size (s .g) (s .pools))
