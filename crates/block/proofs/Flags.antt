@@ -5,11 +5,11 @@ use mathlib.Core.Path.{_≡_, refl, sym, ap, ap₂, _∙_}
 use native.Mathlib.Nat.{pow-suc, mul-assoc}
 use native.Mathlib.Omega.{arith}
 use borrow.Author.Tests.{eq-eqb, ne-eqb}
-use lib.Bits.{bitAnd, bitOr, and-step, and-mask, shifted-half, shifted-even}
+use lib.Bits.{bitAnd, bitOr, and-step, and-mask, and-le-l}
 use lib.Dec.{eqb, lit<}
 use lib.Pow.{pow-pos}
 use Rattle.bits.specs.Bits.{digit}
-use Rattle.bits.proofs.Digits.{digit-zero, digit-suc, digit-lt, digit-and, digit-or, digit-not, digit-pow-same}
+use Rattle.bits.proofs.Digits.{digit-zero, digit-suc, digit-lt, digit-and, digit-or, digit-not, digit-pow-same, digit-pow-other}
 use Rattle.block.specs.Record.{emptyFlag, dirtyFlag, isOn, on, off}
 
 -- a flag 2 ^ j is the digit j
@@ -42,3 +42,13 @@ dirty-on f = flag-on f 1
 
 pub dirty-off : (f : ℕ) → isOn (off f dirtyFlag) dirtyFlag ≡ false
 dirty-off f = flag-off f 1 (lit< tt) (lit< tt)
+
+-- the other flag stays
+pub empty-kept : (f : ℕ) → isOn (off f dirtyFlag) emptyFlag ≡ isOn f emptyFlag
+empty-kept f =
+    let ones : digit (2 ^ 32 - 1 - 2) 0 ≡ 1 = digit-not 32 2 0 (lit< tt) (lit< tt) ∙ ap (λ (x : ℕ). 1 - x) (digit-pow-other 1 0 (λ e. omega arith)) in
+    let same : digit (off f dirtyFlag) 0 ≡ digit f 0 = omega (arith, digit-and f (2 ^ 32 - 1 - 2) 0, ones, digit-lt f 0) in
+    ap (λ (x : ℕ). not (eqb x 0)) (and-pow (off f dirtyFlag) 0 ∙ ap (λ (x : ℕ). x * 2 ^ 0) same ∙ sym (and-pow f 0))
+
+pub off-le : (f flag : ℕ) → off f flag ≤ f
+off-le f flag = and-le-l f (2 ^ 32 - 1 - flag)

@@ -1,1 +1,4 @@
 pub mod Facts
+pub mod Keep
+pub mod Search
+pub mod Room

@@ -15,7 +15,7 @@ const ADDRESSES: u64 = 281474976710656;
 
 // ---- the numbers in the record
 
-fn arena_ok(base: u64, length: u64) -> bool
+pub fn arena_ok(base: u64, length: u64) -> bool
     ensures { λ r. ⌜ r ≡ arenaOk base length ⌝ }
 {
     if base == 0 {

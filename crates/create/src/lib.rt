@@ -1,0 +1,131 @@
+// The call create.
+use sizes::Pool;
+use state::Answer;
+use state::Outcome;
+use state::Refusal;
+use state::State;
+ghost use mathlib.Core.Path.{_≡_};
+ghost use Prim.Native.Nat.{_<_, _≤_, min};
+ghost use lib.ListN.{length};
+ghost use Rattle.rules.specs.Turn.{turn};
+ghost use Rattle.rules.specs.Create.{poolsAsked, immediateAsked, slotsOf, grantable, freshState, cleared, createTurn};
+ghost use Rattle.create.specs.Asked.{asked};
+
+fn lesser(a: usize, b: usize) -> usize
+    ensures { λ r. ⌜ r ≡ min a b ⌝ }
+{
+    if a < b { a } else { b }
+}
+
+// Bit 0 of the flags asks for three pools.
+fn pools_asked(flags: u32) -> usize
+    ensures { λ r. ⌜ r ≡ poolsAsked flags ⌝ }
+{
+    if flags % 2 == 0 { 1 } else { 3 }
+}
+
+// Bit 1 asks that an empty block goes at once.
+fn immediate_asked(flags: u32) -> bool
+    ensures { λ r. ⌜ r ≡ immediateAsked flags ⌝ }
+{
+    flags / 2 % 2 != 0
+}
+
+// How many slots come into force: not more than the table has, and only whole ones in both slices.
+fn slots_of(w: usize, used: usize, stop: usize) -> usize
+    requires { ⌜ 0 < w ⌝ }
+    ensures { λ r. ⌜ r ≡ slotsOf w used stop ⌝ }
+{
+    let words = lesser(used, stop);
+    lesser(state::SLOT_LIMIT, words / w)
+}
+
+// `w` is tested first, since the slots are counted by a division by it.
+fn is_grantable(w: usize, arena: u64, length: u64, used: usize, stop: usize) -> bool
+    ensures { λ r. ⌜ r ≡ grantable (asked 0 0 0 w arena length) used stop ⌝ }
+{
+    if w < 1 {
+        return false;
+    }
+    if w > 16384 {
+        return false;
+    }
+    if slots_of(w, used, stop) < 1 {
+        return false;
+    }
+    shape::arena_ok(arena, length)
+}
+
+// The first `n` words cleared, no later ones.
+fn clear_words(words: &mut [u32], n: usize)
+    requires { ⌜ n ≤ length (now words) ⌝ }
+    ensures { λ _. ⌜ now (words .exit) ≡ cleared n (now (words .entry)) ⌝ }
+{
+    let mut i: usize = 0;
+    while i < n {
+        words[i] = 0;
+        i += 1;
+    }
+}
+
+// The record of an allocator with no block.
+fn fresh_state(
+    size: u32,
+    g: u32,
+    flags: u32,
+    w: usize,
+    arena: u64,
+    length: u64,
+    slots: usize,
+) -> State
+    ensures { λ r. ⌜ r ≡ freshState (asked size g flags w arena length) slots ⌝ }
+{
+    let unit = sizes::granularity_in_force(g);
+    let base = sizes::base_size_in_force(size);
+    let pools = pools_asked(flags);
+    let immediate = immediate_asked(flags);
+    State {
+        size: base,
+        g: unit,
+        pools,
+        immediate,
+        w,
+        slots,
+        arena,
+        length,
+        live: 0,
+        count: 0,
+        blocks: [state::zero_block(); 64],
+        order: [0; 64],
+        pool: [Pool::new(unit); 3],
+    }
+}
+
+// An allocator over the two slices and the arena. A size or a granularity that is not listed becomes the least one; other numbers out of
+// their range are refused, and then no word is written.
+pub fn create(
+    size: u32,
+    g: u32,
+    flags: u32,
+    w: u32,
+    arena: u64,
+    length: u64,
+    used: &mut [u32],
+    stop: &mut [u32],
+) -> Outcome
+    ensures { λ r. ⌜ turn (r .answer) (r .state) (now (used .exit)) (now (stop .exit)) ≡ createTurn (asked size g flags w arena length) (now (used .entry)) (now (stop .entry)) ⌝ }
+{
+    let words = w as usize;
+    if !is_grantable(words, arena, length, used.len(), stop.len()) {
+        let answer = Answer::Refused(Refusal::InvalidArgument);
+        let state = state::zero_state();
+        return Outcome { answer, state };
+    }
+    let slots = slots_of(words, used.len(), stop.len());
+    let n = slots * words;
+    clear_words(used, n);
+    clear_words(stop, n);
+    let state = fresh_state(size, g, flags, words, arena, length, slots);
+    let answer = Answer::Created(state.size, state.g, state.pools);
+    Outcome { answer, state }
+}

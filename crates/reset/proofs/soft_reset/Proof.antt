@@ -1,0 +1,58 @@
+use mathlib.Core.Bool.{true, false}
+use mathlib.Core.Path.{_≡_, sym, _∙_}
+use borrow.Author.Tests.{not-true, not-false}
+use lib.ListN.{length}
+use Rattle.state.specs.Shape.{goodShape}
+use Rattle.shape.specs.Shaped.{Shaped}
+use Rattle.shape.proofs.Shaped.{shaped-is}
+use Rattle.reset.proofs.Turns.{clearable-used, clearable-stop, keepable, bad-is, done-is}
+use borrow.Author.Needs.{needs}
+use Rattle.reset.proofs.soft_reset.Statement.{statement}
+use Rattle.reset.proofs.soft_reset.Tie as tie
+
+-- the state has its shape
+good : (c : tie.Else1) → let a = c .before .before .before .before .args in goodShape (a .s) (length (a .used .now)) (length (a .stop .now)) ≡ true
+good c = sym (c .before .shape-ok .ensures) ∙ not-false (c .before .shape-ok .result) (c .if1 .left)
+
+shaped : (c : tie.Else1) → let a = c .before .before .before .before .args in Shaped (a .s) (length (a .used .now)) (length (a .stop .now))
+shaped c = let a = c .before .before .before .before .args in shaped-is (a .s) (length (a .used .now)) (length (a .stop .now)) (good c)
+
+shape-ok-requires : tie.Need-shape-ok-requires
+shape-ok-requires c κs = search needs
+
+returns : tie.Need-returns
+returns c = let a = c .before .before .before .before .args in bad-is (a .s) (a .used .now) (a .stop .now) false (sym (c .before .shape-ok .ensures) ∙ not-true (c .before .shape-ok .result) (c .if1 .taken))
+
+clear-blocks-requires : tie.Need-clear-blocks-requires
+clear-blocks-requires c κs = let a = c .before .before .before .before .before .args in clearable-used (a .s) (length (a .used .now)) (length (a .stop .now)) (shaped (c .before))
+
+clear-blocks-requires-2 : tie.Need-clear-blocks-requires-2
+clear-blocks-requires-2 c κs = let a = c .before .before .before .before .before .before .before .before .before .args in clearable-stop (a .s) (length (a .used .now)) (length (a .stop .now)) (shaped (c .before .before .before .before .before))
+
+soften-requires : tie.Need-soften-requires
+soften-requires c κs = let a = c .before .before .before .before .before .before .before .before .before .before .before .before .args in keepable (a .s) (length (a .used .now)) (length (a .stop .now)) (shaped (c .before .before .before .before .before .before .before .before))
+
+same-length : tie.Need-same-length
+same-length c = search needs
+
+same-length-2 : tie.Need-same-length-2
+same-length-2 c = search needs
+
+returns-2 : tie.Need-returns-2
+returns-2 c =
+    let a = c .before .before .before .before .before .before .before .before .before .before .before .before .before .args in
+    done-is (a .s) (a .used .now) (a .stop .now) false (c .soften .result) (c .before .before .before .before .before .before .before .clear-blocks .last .1 .0) (c .before .before .before .clear-blocks2 .last .1 .0)
+    (good (c .before .before .before .before .before .before .before .before .before)) (c .soften .ensures) (c .before .before .before .before .before .before .before .clear-blocks .ensures) (c .before .before .before .clear-blocks2 .ensures)
+
+pub soft-reset-spec : {M : Type 1} → statement M
+soft-reset-spec =
+    tie.close
+    (tie.spec
+    shape-ok-requires
+    returns
+    clear-blocks-requires
+    clear-blocks-requires-2
+    soften-requires
+    same-length
+    same-length-2
+    returns-2)
