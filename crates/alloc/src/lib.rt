@@ -1,8 +1,14 @@
 // The call alloc.
 use block::Block;
 use sizes::Rounded;
-use state::{Answer, Found, Hit, Outcome, Place, Refusal, Span, State};
-
+use state::Answer;
+use state::Found;
+use state::Hit;
+use state::Outcome;
+use state::Place;
+use state::Refusal;
+use state::Span;
+use state::State;
 ghost use mathlib.Core.Path.{_≡_};
 ghost use Prim.Native.Nat.{_+_, _*_, _^_, _<_, _≤_};
 ghost use lib.ListN.{length};
@@ -22,7 +28,11 @@ ghost use Rattle.alloc.specs.Ready.{Markable, Makeable, Makes, Allocates
 fn one_if_empty(b: Block) -> u32
     ensures { λ r. ⌜ r ≡ one (isEmpty b) ⌝ }
 {
-    if b.flags & Block::FLAG_EMPTY != 0 { 1 } else { 0 }
+    if b.flags & Block::FLAG_EMPTY != 0 {
+        1
+    } else {
+        0
+    }
 }
 
 // A span of `n` units from unit `i` on of the block of age `j`.

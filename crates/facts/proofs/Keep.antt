@@ -65,11 +65,11 @@ module _ (s : State) (j : ℕ) (c : Block) (len : length (s .blocks) ≡ 64) whe
     sums p =
         let blocks = sum-same (s .count) (λ i. one (inPool (putBlock s j c) p i)) (λ i. one (inPool s p i)) (λ i l. ap one (in-pool p i)) in
         let empty = sum-same (s .count) (λ i. one (inPool (putBlock s j c) p i && isEmpty (blockAt (putBlock s j c) i))) (λ i. one (inPool s p i && isEmpty (blockAt s i)))
-            (λ i l. ap₂ (λ (a b : Bool). one (a && b)) (in-pool p i) (alike i .empty)) in
+        (λ i l. ap₂ (λ (a b : Bool). one (a && b)) (in-pool p i) (alike i .empty)) in
         let area = sum-same (s .count) (λ i. only (inPool (putBlock s j c) p i) (blockAt (putBlock s j c) i .area)) (λ i. only (inPool s p i) (blockAt s i .area))
-            (λ i l. ap₂ (λ (a : Bool) (n : ℕ). only a n) (in-pool p i) (alike i .area)) in
+        (λ i l. ap₂ (λ (a : Bool) (n : ℕ). only a n) (in-pool p i) (alike i .area)) in
         let used = sum-same (s .count) (λ i. only (inPool (putBlock s j c) p i) (blockAt (putBlock s j c) i .used)) (λ i. only (inPool s p i) (blockAt s i .used))
-            (λ i l. ap₂ (λ (a : Bool) (n : ℕ). only a n) (in-pool p i) (alike i .used)) in
+        (λ i l. ap₂ (λ (a : Bool) (n : ℕ). only a n) (in-pool p i) (alike i .used)) in
         pool-of (s .g) blocks empty area used
       where
         pool-of : (g : ℕ) {a b a′ b′ a″ b″ a‴ b‴ : ℕ} → a ≡ b → a′ ≡ b′ → a″ ≡ b″ → a‴ ≡ b‴

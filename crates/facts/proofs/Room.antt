@@ -70,9 +70,9 @@ module _ (s : State) (u t : ℕ) (f : Shaped s u t) where
       let q = f .pools p h in
       let blocks = sum-bound (s .count) 1 (λ i. one (inPool s p i)) (λ i l. one-le (inPool s p i)) in
       let area = sum-bound (s .count) 524288 (λ i. only (inPool s p i) (blockAt s i .area))
-          (λ i l. only-le (inPool s p i) (blockAt s i .area) 524288 (omega (arith, f .sound i l .area-high, f .head .w-high))) in
+      (λ i l. only-le (inPool s p i) (blockAt s i .area) 524288 (omega (arith, f .sound i l .area-high, f .head .w-high))) in
       let used = sum-bound (s .count) 524288 (λ i. only (inPool s p i) (blockAt s i .used))
-          (λ i l. only-le (inPool s p i) (blockAt s i .used) 524288 (omega (arith, f .sound i l .used, f .sound i l .area-high, f .head .w-high))) in
+      (λ i l. only-le (inPool s p i) (blockAt s i .used) 524288 (omega (arith, f .sound i l .used, f .sound i l .area-high, f .head .w-high))) in
       (omega (arith, ap (λ (x : Pool). x .blocks) q, blocks), omega (arith, ap (λ (x : Pool). x .area) q, area), omega (arith, ap (λ (x : Pool). x .used) q, used))
 
   pub live-small : s .live ≤ 33554432

@@ -42,7 +42,7 @@ refused-requires c κs = search needs
 
 returns : tie.Need-returns
 unfolding allocTurn
-returns c = 
+returns c =
     let a = c .before .before .before .before .before .args in
     let e : goodShape (a .s) (length (a .used .now)) (length (a .stop .now)) ≡ false = sym (c .before .before .shape-ok .ensures) ∙ not-true (c .before .before .shape-ok .result) (c .before .if1 .taken) in
     ap₂ (λ (x : Answer) (r : State). turn x r (a .used .now) (a .stop .now)) (c .refused .ensures .0) (c .refused .ensures .1) ∙ rw e
@@ -54,7 +54,7 @@ enum-known-rounded : tie.Need-enum-known-rounded
 enum-known-rounded c = search needs
 
 alloc-rounded-requires : tie.Need-alloc-rounded-requires
-alloc-rounded-requires c κs = 
+alloc-rounded-requires c κs =
     let a = c .before .before .before .before .before .before .before .before .before .before .args in
     let f = shaped (c .before .before .before .before .before .before) in
     let q = rounded-to-granularity (a .size) (a .s .g) (c .before .before .before .rounded .given .0 .0) (g-good (a .s .g) (f .head .g-listed)) (c .before .before .before .before .before .before .before .before .before .before .good .1 .1 .1 .0 .1) (sym (c .before .before .before .before .before .round-size .ensures) ∙ c .before .before .before .rounded .given .1) in
@@ -79,7 +79,7 @@ returns-2 : tie.Need-returns-2
 returns-2 c = c .before .before .before .before .alloc-rounded .ensures ∙ sized (c .before .before .before .before .before .before .before .before .before .before) _ (c .before .before .before .before .before .before .before .before .rounded .given .1)
 
 returns-3 : tie.Need-returns-3
-returns-3 c = 
+returns-3 c =
     let a = c .before .before .before .before .before .before .before .before .before .before .args in
     ap₂ (λ (x : Answer) (r : State). turn x r (a .used .now) (a .stop .now)) (c .refused2 .ensures .0) (c .refused2 .ensures .1)
     ∙ ap (λ (why : Refusal). refuse why (a .s) (a .used .now) (a .stop .now)) (c .before .size-refusal .ensures)

@@ -62,24 +62,26 @@ element-copy-out-pool : tie.Need-element-copy-out-pool
 element-copy-out-pool c = let a = c .before .before .before .args in omega (arith, c .size-to-pool-id .ensures, pool-in (a .t1) (length (a .used .now)) (length (a .stop .now)) (a .bytes) (c .before .before .before .pre))
 
 area-size-from-byte-size-requires : tie.Need-area-size-from-byte-size-requires
-area-size-from-byte-size-requires c κs = 
+area-size-from-byte-size-requires c κs =
     let a = c .before .before .before .before .args in
     let m = c .before .before .before .before .pre in
     subst (λ (p : ℕ). (0 < poolAt (a .t1) p .granularity) × (a .bytes ≤ (2 ^ 32 - 1) * poolAt (a .t1) p .granularity)) (sym (c .before .size-to-pool-id .ensures))
     (omega (arith, unit-some (a .t1) (length (a .used .now)) (length (a .stop .now)) (a .bytes) m), bytes-in (a .t1) (length (a .used .now)) (length (a .stop .now)) (a .bytes) m)
 
 search-pool-requires : tie.Need-search-pool-requires
-search-pool-requires c κs = 
+search-pool-requires c κs =
     let a = c .before .before .before .before .before .before .args in
-    let m = c .before .before .before .before .before .before .pre in
-    (count-64 (a .t1) (length (a .used .now)) (length (a .stop .now)) (m .shaped), omega (arith, units-are (c .before), some-units (a .t1) (length (a .used .now)) (length (a .stop .now)) (a .bytes) m),
-    looked-into (a .t1) (length (a .used .now)) (length (a .stop .now)) (a .bytes) m)
+    let m = c .before .before .before .before .before .before .pre in (
+      count-64 (a .t1) (length (a .used .now)) (length (a .stop .now)) (m .shaped),
+      omega (arith, units-are (c .before), some-units (a .t1) (length (a .used .now)) (length (a .stop .now)) (a .bytes) m),
+      looked-into (a .t1) (length (a .used .now)) (length (a .stop .now)) (a .bytes) m,
+    )
 
 enum-known-hit : tie.Need-enum-known-hit
 enum-known-hit c = search needs
 
 mark-span-requires : tie.Need-mark-span-requires
-mark-span-requires c κs = 
+mark-span-requires c κs =
     let a = c .before .before .before .before .before .before .before .before .before .before .before .before .before .args in
     let m = c .before .before .before .before .before .before .before .before .before .before .before .before .before .pre in
     let lu = length (a .used .now) in
@@ -100,7 +102,7 @@ newest-size-requires : tie.Need-newest-size-requires
 newest-size-requires c κs = let a = c .before .before .before .before .before .before .before .before .before .before .args in count-64 (c .before .before .before .search-pool .result .state) (length (a .used .now)) (length (a .stop .now)) (left (c .before .before .before) .shaped)
 
 calculate-ideal-block-size-requires : tie.Need-calculate-ideal-block-size-requires
-calculate-ideal-block-size-requires c κs = 
+calculate-ideal-block-size-requires c κs =
     let a = c .before .before .before .before .before .before .before .before .before .before .before .args in
     let m = c .before .before .before .before .before .before .before .before .before .before .before .pre in
     let lu = length (a .used .now) in
@@ -113,7 +115,7 @@ calculate-ideal-block-size-requires c κs =
     (newest-asked st lu lt (c .before .before .before .before .before .before .before .before .size-to-pool-id .result) (a .bytes) (left (c .before .before .before .before) .shaped) (m .most))
 
 new-span-requires : tie.Need-new-span-requires
-new-span-requires c κs = 
+new-span-requires c κs =
     let a = c .before .before .before .before .before .before .before .before .before .before .before .before .before .before .args in
     let m = c .before .before .before .before .before .before .before .before .before .before .before .before .before .before .pre in
     let lu = length (a .used .now) in
@@ -136,7 +138,7 @@ same-length-2 : tie.Need-same-length-2
 same-length-2 c = search needs
 
 returns : tie.Need-returns
-returns c = 
+returns c =
     let a = c .before .before .before .before .before .before .before .before .before .before .before .before .before .before .before .before .before .before .args in
     let m = c .before .before .before .before .before .before .before .before .before .before .before .before .before .before .before .before .before .before .pre in
     let lu = length (a .used .now) in
@@ -158,7 +160,7 @@ same-length-4 : tie.Need-same-length-4
 same-length-4 c = search needs
 
 returns-2 : tie.Need-returns-2
-returns-2 c = 
+returns-2 c =
     let a = c .before .before .before .before .before .before .before .before .before .before .before .before .before .before .before .before .before .before .before .args in
     let m = c .before .before .before .before .before .before .before .before .before .before .before .before .before .before .before .before .before .before .before .pre in
     let lu = length (a .used .now) in

@@ -22,7 +22,7 @@ insert-block-requires : tie.Need-insert-block-requires
 insert-block-requires c κs = search needs
 
 mark-span-requires : tie.Need-mark-span-requires
-mark-span-requires c κs = 
+mark-span-requires c κs =
     let a = c .before .before .before .before .before .before .before .before .before .before .before .before .before .args in
     let m = c .before .before .before .before .before .before .before .before .before .before .before .before .before .pre in
     let eu = ap length (c .before .before .before .before .before .before .before .before .before .clear-slot .ensures) ∙ length-cleared (a .s .w) (a .b .slot) (a .used .now) (m .placed .room) in
@@ -39,7 +39,7 @@ same-length-2 : tie.Need-same-length-2
 same-length-2 c = search needs
 
 returns : tie.Need-returns
-returns c = 
+returns c =
     let a = c .before .before .before .before .before .before .before .before .before .before .before .before .before .before .before .before .before .before .args in
     c .before .before .before .before .mark-span .ensures
     ∙ ap (λ (r : State). markTurn r (c .before .before .before .before .before .before .before .before .before .before .before .before .before .before .clear-slot .last .0) (c .before .before .before .before .before .before .before .before .before .before .clear-slot2 .last .0) (a .s .count) 0 (a .n)) (c .before .before .before .before .before .before .before .insert-block .ensures)

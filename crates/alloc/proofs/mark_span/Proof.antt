@@ -28,21 +28,21 @@ element-copy-out-pool : tie.Need-element-copy-out-pool
 element-copy-out-pool c = search needs
 
 byte-size-from-area-size-requires : tie.Need-byte-size-from-area-size-requires
-byte-size-from-area-size-requires c κs = 
+byte-size-from-area-size-requires c κs =
     let a = c .before .before .before .before .args in
     let m = c .before .before .before .before .pre in
     let b = blockAt (a .t1) (a .j) in
     omega (arith, m .top, m .fits, offset-le (a .i) (b .area) (unitOf (a .t1) b) (omega (arith, m .fits)))
 
 byte-size-from-area-size-requires-2 : tie.Need-byte-size-from-area-size-requires-2
-byte-size-from-area-size-requires-2 c κs = 
+byte-size-from-area-size-requires-2 c κs =
     let a = c .before .before .before .before .before .args in
     let m = c .before .before .before .before .before .pre in
     let b = blockAt (a .t1) (a .j) in
     omega (arith, m .top, m .fits, offset-le (a .n) (b .area) (unitOf (a .t1) b) (omega (arith, m .fits)))
 
 add-address : tie.Need-add-address
-add-address c = 
+add-address c =
     let a = c .before .before .before .before .before .before .before .args in
     let m = c .before .before .before .before .before .before .before .pre in
     let b = blockAt (a .t1) (a .j) in
@@ -85,7 +85,7 @@ same-length-2 : tie.Need-same-length-2
 same-length-2 c = search needs
 
 returns : tie.Need-returns
-returns c = 
+returns c =
     let a = c .before .before .before .before .before .before .before .before .before .before .before .before .before .before .before .before .before .args in
     let b = blockAt (a .t1) (a .j) in
     let m = c .before .before .before .before .mark-allocated-area .ensures in

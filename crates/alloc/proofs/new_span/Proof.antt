@@ -52,7 +52,7 @@ refused-requires : tie.Need-refused-requires
 refused-requires c κs = search needs
 
 returns : tie.Need-returns
-returns c = 
+returns c =
     let a = c .before .before .before .before .before .before .args in
     refusal (a .t1) (a .used .now) (a .stop .now) (a .p) (a .n) (a .bytes) (c .refused .result .answer) (c .refused .result .state) (c .refused .ensures)
     ∙ by-place (a .t1) (a .used .now) (a .stop .now) (a .p) (a .n) (a .bytes) Nowhere (lowestSlot (a .t1)) (sym (c .before .enum-told .given .1) ∙ c .before .before .before .lowest-place .ensures) refl
@@ -70,7 +70,7 @@ refused-requires-2 : tie.Need-refused-requires-2
 refused-requires-2 c κs = search needs
 
 returns-2 : tie.Need-returns-2
-returns-2 c = 
+returns-2 c =
     let a = c .before .before .before .before .before .before .before .before .before .before .args in
     refusal (a .t1) (a .used .now) (a .stop .now) (a .p) (a .n) (a .bytes) (c .refused2 .result .answer) (c .refused2 .result .state) (c .refused2 .ensures)
     ∙ by-place (a .t1) (a .used .now) (a .stop .now) (a .p) (a .n) (a .bytes) (Address (c .before .before .before .before .before .place .given .0 .0)) Nothing (sym (c .before .before .before .before .before .place .given .1) ∙ c .before .before .before .before .before .before .before .lowest-place .ensures)
@@ -83,10 +83,11 @@ element-copy-out-pool : tie.Need-element-copy-out-pool
 element-copy-out-pool c = search needs
 
 area-size-from-byte-size-requires : tie.Need-area-size-from-byte-size-requires
-area-size-from-byte-size-requires c κs = 
-    let a = c .before .before .before .before .before .before .before .before .before .before .before .args in
-    (omega (arith, unit-low (a .t1) (length (a .used .now)) (length (a .stop .now)) (a .p) (a .n) (a .bytes) (c .before .before .before .before .before .before .before .before .before .before .before .pre)),
-    bytes-range (a .t1) (length (a .used .now)) (length (a .stop .now)) (a .p) (a .n) (a .bytes) (c .before .before .before .before .before .before .before .before .before .before .before .pre))
+area-size-from-byte-size-requires c κs =
+    let a = c .before .before .before .before .before .before .before .before .before .before .before .args in (
+      omega (arith, unit-low (a .t1) (length (a .used .now)) (length (a .stop .now)) (a .p) (a .n) (a .bytes) (c .before .before .before .before .before .before .before .before .before .before .before .pre)),
+      bytes-range (a .t1) (length (a .used .now)) (length (a .stop .now)) (a .p) (a .n) (a .bytes) (c .before .before .before .before .before .before .before .before .before .before .before .pre),
+    )
 
 cast-area-size-from-byte-size : tie.Need-cast-area-size-from-byte-size
 cast-area-size-from-byte-size c = search needs
@@ -101,7 +102,7 @@ refused-requires-3 : tie.Need-refused-requires-3
 refused-requires-3 c κs = search needs
 
 returns-3 : tie.Need-returns-3
-returns-3 c = 
+returns-3 c =
     let a = c .before .before .before .before .before .before .before .before .before .before .before .before .before .before .before .args in
     let unit = poolAt (a .t1) (a .p) .granularity in
     let at = c .before .before .before .before .before .before .before .before .before .before .place .given .0 .0 in
@@ -113,12 +114,12 @@ returns-3 c =
     ∙ by-place (a .t1) (a .used .now) (a .stop .now) (a .p) (a .n) (a .bytes) (Address at) (At k) (sym (c .before .before .before .before .before .before .before .before .before .before .place .given .1) ∙ c .before .before .before .before .before .before .before .before .before .before .before .before .lowest-place .ensures) (sym (c .before .before .before .before .before .before .slot .given .1) ∙ c .before .before .before .before .before .before .before .before .lowest-free-slot .ensures)
 
 new-block-requires : tie.Need-new-block-requires
-new-block-requires c κs = 
+new-block-requires c κs =
     let a = c .before .before .before .before .before .before .before .before .before .before .before .before .before .before .args in
     omega (arith, c .before .before .area-size-from-byte-size .ensures, span-fits (a .t1) (length (a .used .now)) (length (a .stop .now)) (a .p) (a .n) (a .bytes) (c .before .before .before .before .before .before .before .before .before .before .before .before .before .before .pre))
 
 make-span-requires : tie.Need-make-span-requires
-make-span-requires c κs = 
+make-span-requires c κs =
     let a = c .before .before .before .before .before .before .before .before .before .before .before .before .before .before .before .before .before .args in
     let m = c .before .before .before .before .before .before .before .before .before .before .before .before .before .before .before .before .before .pre in
     let at = c .before .before .before .before .before .before .before .before .before .before .before .before .place .given .0 .0 in
@@ -136,7 +137,7 @@ same-length-2 : tie.Need-same-length-2
 same-length-2 c = search needs
 
 returns-4 : tie.Need-returns-4
-returns-4 c = 
+returns-4 c =
     let a = c .before .before .before .before .before .before .before .before .before .before .before .before .before .before .before .before .before .before .before .before .before .before .args in
     let unit = poolAt (a .t1) (a .p) .granularity in
     let at = c .before .before .before .before .before .before .before .before .before .before .before .before .before .before .before .before .before .place .given .0 .0 in
