@@ -1,5 +1,5 @@
 -- Document 01's T1, computed by the machine: the program's 8,192 words of each map. Assumes nothing.
-use Prim.Native.Nat.{ℕ, zero, suc}
+use Prim.Native.Nat.{ℕ, zero, suc, _+_}
 use mathlib.Core.Bool.{Bool, true, false}
 use mathlib.Core.List.{List, [], _∷_}
 use mathlib.Core.Path.{_≡_, refl}
@@ -15,7 +15,7 @@ use Rattle.state.specs.declared.State.{State}
 use Rattle.state.specs.declared.Answer.{Answer}
 use Rattle.state.specs.declared.Answer.the-variants.{Created, Granted, Released, Shrunk, Shown, Reset, Refused}
 use Rattle.state.specs.declared.Refusal.the-variants.{InvalidArgument, InvalidState}
-use Rattle.state.specs.Table.{zeroState, all, sum}
+use Rattle.state.specs.Table.{zeroState, poolAt, all, sum}
 use Rattle.state.specs.Shape.{clauses}
 use Rattle.state.specs.Find.{leastFrom, latest}
 use Rattle.state.specs.Change.{listFrom}
@@ -31,6 +31,11 @@ use Rattle.rules.specs.Machine.{Call, create, alloc, release, shrink, qu
 answersOf : State → List ℕ → List ℕ → List Call → List Answer
 answersOf s u t [] = []
 answersOf s u t (c ∷ cs) = step s u t c .answer ∷ answersOf (step s u t c .state) (step s u t c .used) (step s u t c .stop) cs
+
+-- what the last line shows: live spans, blocks, used units
+endOf : State → List ℕ → List ℕ → List Call → List ℕ
+endOf s u t [] = s .live ∷ s .count ∷ (poolAt s 0 .used + poolAt s 1 .used + poolAt s 2 .used) ∷ []
+endOf s u t (c ∷ cs) = endOf (step s u t c .state) (step s u t c .used) (step s u t c .stop) cs
 
 calls : List Call
 calls =
@@ -62,3 +67,7 @@ ran : answersOf zeroState (replicate 8192 0) (replicate 8192 0) calls
     ∷ []
 unfolding answersOf calls createTurn isGranularity granularityInForce isPowerBelow isBaseSize baseSizeInForce digit bit put setBit filled freeFrom lowestFit longestRun lastEnd seek moved marked released looks lookInto poolOf rounded idealSize all sum clauses leastFrom latest listFrom searchFrom allocTurn queryTurn releaseTurn shrinkTurn clearBlocks kept resetTurn
 ran = refl
+
+ended : endOf zeroState (replicate 8192 0) (replicate 8192 0) calls ≡ 0 ∷ 1 ∷ 0 ∷ []
+unfolding endOf calls createTurn isGranularity granularityInForce isPowerBelow isBaseSize baseSizeInForce digit bit put setBit filled freeFrom lowestFit longestRun lastEnd seek moved marked released looks lookInto poolOf rounded idealSize all sum clauses leastFrom latest listFrom searchFrom allocTurn queryTurn releaseTurn shrinkTurn clearBlocks kept resetTurn
+ended = refl
