@@ -1,1 +1,3 @@
 pub mod T1
+pub mod Refusals
+pub mod One

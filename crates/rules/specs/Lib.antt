@@ -6,3 +6,4 @@ pub mod Release
 pub mod Shrink
 pub mod Reset
 pub mod Machine
+pub mod Refusals
