@@ -84,7 +84,7 @@ pub struct Span {
     pub size: u64,
 }
 
-// Document 01's refusals but for the trace's own; `number` of rules/specs/Answers.antt has their numbers.
+// Document 01's refusals but for the trace's own; `number` of rules/specs/Turn.antt has their numbers.
 pub enum Refusal {
     InvalidArgument,
     TooLarge,
