@@ -1,5 +1,5 @@
-// Plays the records of `stdin` through the calls and writes document 01's lines. `stdin` has the good ones among the sample traces, one
-// behind the other, and `stdout` what the oracle's plain program answers to them (oracle/make-samples makes both). It takes every record
+// Plays the records of `stdin` through the calls and writes document 01's lines. `stdin` has T1 and the good ones among the sample
+// traces, one behind the other, and `stdout` what the oracle's plain program answers to them (oracle/make-samples makes both). It takes every record
 // for a good one: refusal 7 is left to the trace program.
 use state::Answer;
 use state::Outcome;
