@@ -123,6 +123,10 @@ module _ (s : State) (u t : ℕ) (f : Shaped s u t) (j : ℕ) (h : j < s .count)
         ap (λ (z : Bool). only z (blockAt s j .used)) own,
       )
 
+  -- so units of a span can be taken off
+  pub less-ready : (n : ℕ) → n ≤ blockAt s j .used → (j < 64) × (blockAt s j .pool < 3) × (n ≤ poolAt s (blockAt s j .pool) .used)
+  less-ready n l = (omega (arith, h, count-64 s u t f), pool-3 s u t f j h, omega (arith, l, pool-used))
+
   module _ (blocks : length (s .blocks) ≡ 64) (order : length (s .order) ≡ 64) where
     -- zeros behind, also behind the lists' ends
     pub block-rest : (k : ℕ) → s .count ≤ k → blockAt s k ≡ zeroBlock

@@ -12,7 +12,7 @@ use Rattle.state.specs.declared.Refusal.the-variants.{InvalidArgument, TooLarge
 use Rattle.state.specs.declared.Answer.{Answer}
 use Rattle.state.specs.declared.Answer.the-variants.{Refused}
 use Rattle.state.specs.Table.{blockAt, poolAt}
-use Rattle.state.specs.Change.{withTable}
+use Rattle.state.specs.Change.{withRest, withTable}
 
 -- ---- the numbers of the refusals
 abbrev pub number : Refusal → ℕ
@@ -48,21 +48,7 @@ abbrev pub putPool : State → ℕ → Pool → State
 putPool s p q = withTable s (s .count) (s .blocks) (s .order) (set (s .pool) p q)
 
 abbrev pub withLive : State → ℕ → State
-withLive s live = record {
-  size = s .size;
-  g = s .g;
-  pools = s .pools;
-  immediate = s .immediate;
-  w = s .w;
-  slots = s .slots;
-  arena = s .arena;
-  length = s .length;
-  live = live;
-  count = s .count;
-  blocks = s .blocks;
-  order = s .order;
-  pool = s .pool;
-}
+withLive s live = withRest s live (s .count) (s .blocks) (s .order) (s .pool)
 
 -- a pool with other counts of empty blocks and used units
 abbrev pub withCounts : Pool → ℕ → ℕ → Pool

@@ -14,29 +14,10 @@ use Rattle.state.specs.declared.State.{State}
 use Rattle.state.specs.Table.{blockAt}
 use Rattle.state.specs.Shape.{isEmpty, emptyOk, flagsOk}
 use Rattle.state.proofs.Tests.{every-at}
-use Rattle.shape.specs.Parts.{blockOk}
+use Rattle.shape.specs.Parts.{blockTests, blockOk}
 use Rattle.shape.specs.Facts.{Headed, Sound, SoundIn, Laid}
 use Rattle.numbers.proofs.Split.{not-both}
 use Rattle.shape.proofs.Head.{not-zero}
-
-abbrev pub blockTests : ℕ → ℕ → ℕ → ℕ → ℕ → ℕ → Block → List Bool
-blockTests g pools w slots arena length b =
-    ltb (b .slot) slots
-    ∷ ltb (b .pool) pools
-    ∷ eqb (b .base % 65536) 0
-    ∷ not (eqb (b .area) 0)
-    ∷ eqb (b .area % 32) 0
-    ∷ eqb (b .area * g) (b .size)
-    ∷ leb (b .area) (32 * w)
-    ∷ leb (b .used) (b .area)
-    ∷ leb (b .start) (b .area)
-    ∷ leb (b .end) (b .area)
-    ∷ leb (b .largest) (b .area)
-    ∷ leb arena (b .base)
-    ∷ leb (b .base + b .size) (arena + length)
-    ∷ emptyOk b
-    ∷ flagsOk b
-    ∷ []
 
 empty-unused : (e : Bool) (n : ℕ) → pick e (eqb n 0) (not (eqb n 0)) ≡ true → e ≡ true → n ≡ 0
 empty-unused true n p q = eqb-true n 0 p

@@ -10,11 +10,10 @@ use Rattle.state.specs.declared.State.{State}
 use Rattle.state.specs.Table.{blockAt, poolAt, all}
 use Rattle.state.specs.Shape.{numbersOk, slotsOk, placeOk, baseOk, areaOk, fieldsOk, insideOk, emptyOk, flagsOk, apart, poolOk, emptiesOk, liveOk, orderOk, zeroOk, clauses, goodShape}
 use Rattle.state.proofs.Tests.{and-left, and-right, and-both, every-at, all-at, all-of, pairs-at, pairs-of}
-use Rattle.shape.specs.Parts.{headOk, blockOk, blockOkIn, poolSum, poolLike, slotsApart, bytesApart, tableOk, layoutOk}
+use Rattle.shape.specs.Parts.{headOk, blockTests, blockOk, blockOkIn, poolSum, poolLike, slotsApart, bytesApart, tableOk, layoutOk}
 use Rattle.numbers.proofs.Split.{not-both}
 use Rattle.shape.proofs.Bools.{refute, same-test}
 use Rattle.shape.proofs.Head.{headTests}
-use Rattle.shape.proofs.Sound.{blockTests}
 use Rattle.shape.proofs.Walk.{tableTests}
 use Rattle.shape.proofs.Address.{layoutTests}
 

@@ -1,7 +1,7 @@
 -- BadShape's clauses in the parts that the code tests. That the parts together are the printed clauses is proved, not said. Assumes nothing.
 use Prim.Native.Nat.{ℕ, _+_, _*_, _%_}
 use mathlib.Core.Bool.{Bool, not, _&&_}
-use mathlib.Core.List.{[], _∷_}
+use mathlib.Core.List.{List, [], _∷_}
 use lib.Dec.{leb, ltb, eqb}
 use Rattle.numbers.specs.Pick.{pick}
 use Rattle.block.specs.declared.Block.{Block}
@@ -16,10 +16,9 @@ headOk s usedWords stopWords =
     every (numbersOk s ∷ slotsOk s ∷ slicesOk s usedWords stopWords ∷ countOk s ∷ [])
 
 -- one block by itself
-unfoldable pub blockOk : ℕ → ℕ → ℕ → ℕ → ℕ → ℕ → Block → Bool
-blockOk g pools w slots arena length b =
-    every
-    (ltb (b .slot) slots
+abbrev pub blockTests : ℕ → ℕ → ℕ → ℕ → ℕ → ℕ → Block → List Bool
+blockTests g pools w slots arena length b =
+    ltb (b .slot) slots
     ∷ ltb (b .pool) pools
     ∷ eqb (b .base % 65536) 0
     ∷ not (eqb (b .area) 0)
@@ -34,7 +33,10 @@ blockOk g pools w slots arena length b =
     ∷ leb (b .base + b .size) (arena + length)
     ∷ emptyOk b
     ∷ flagsOk b
-    ∷ [])
+    ∷ []
+
+unfoldable pub blockOk : ℕ → ℕ → ℕ → ℕ → ℕ → ℕ → Block → Bool
+blockOk g pools w slots arena length b = every (blockTests g pools w slots arena length b)
 
 abbrev pub blockOkIn : State → Block → Bool
 blockOkIn s b = blockOk (s .g) (s .pools) (s .w) (s .slots) (s .arena) (s .length) b

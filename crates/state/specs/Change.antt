@@ -22,8 +22,9 @@ abbrev pub orElse : ℕ → Found → ℕ
 orElse n (At k) = k
 orElse n Nothing = n
 
-abbrev pub withTable : State → ℕ → List Block → List ℕ → List Pool → State
-withTable s count blocks order pool = record {
+-- the record with other spans and another table
+abbrev pub withRest : State → ℕ → ℕ → List Block → List ℕ → List Pool → State
+withRest s live count blocks order pool = record {
   size = s .size;
   g = s .g;
   pools = s .pools;
@@ -32,12 +33,15 @@ withTable s count blocks order pool = record {
   slots = s .slots;
   arena = s .arena;
   length = s .length;
-  live = s .live;
+  live = live;
   count = count;
   blocks = blocks;
   order = order;
   pool = pool;
 }
+
+abbrev pub withTable : State → ℕ → List Block → List ℕ → List Pool → State
+withTable s count blocks order pool = withRest s (s .live) count blocks order pool
 
 -- a pool with other sums of blocks and areas
 abbrev pub withBlocks : Pool → ℕ → ℕ → Pool

@@ -8,11 +8,11 @@ use Rattle.state.specs.declared.State.{State}
 use Rattle.state.specs.Table.{blockAt}
 use Rattle.state.proofs.Lengths.{blocks-64, order-64}
 use Rattle.state.proofs.Lengths as lengths
-use Rattle.facts.proofs.Facts.{count-64, pool-3, placed}
+use Rattle.facts.proofs.Facts.{pool-3, placed}
 use Rattle.rules.specs.Turn.{withLive}
 use Rattle.rules.specs.Release.{lessUsed, settle}
 use Rattle.release.specs.Settles.{Settles}
-use Rattle.release.proofs.Leaves.{Stays, released-stays, pool-used, settles-after}
+use Rattle.release.proofs.Leaves.{Stays, released-stays, less-ready, settles-after}
 use borrow.Author.Needs.{needs}
 use Rattle.release.proofs.free.Statement.{statement}
 use Rattle.release.proofs.free.Tie as tie
@@ -44,12 +44,8 @@ sub-less-used c = search needs
 less-used-requires : tie.Need-less-used-requires
 less-used-requires c κs =
     let a = c .before .before .before .before .before .before .before .before .before .before .args in
-    let f = c .before .before .before .before .before .before .before .before .before .before .pre .0 .0 in
-    let h = c .before .before .before .before .before .before .before .before .before .before .pre .0 .1 in (
-      omega (arith, h, count-64 (a .t1) (length (a .used .now)) (length (a .stop .now)) f),
-      pool-3 (a .t1) (length (a .used .now)) (length (a .stop .now)) f (a .j) h,
-      omega (arith, c .before .before .before .before .before .before .before .before .before .before .pre .1 .0, pool-used (a .t1) (length (a .used .now)) (length (a .stop .now)) f (a .j) h),
-    )
+    let m = c .before .before .before .before .before .before .before .before .before .before .pre in
+    less-ready (a .t1) (length (a .used .now)) (length (a .stop .now)) (m .0 .0) (a .j) (m .0 .1) _ (m .1 .0)
 
 sub-r : tie.Need-sub-r
 sub-r c = search needs

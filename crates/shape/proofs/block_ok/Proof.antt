@@ -7,9 +7,8 @@ use borrow.Author.Tests.{lt-ltb, le-ltb, le-leb, lt-leb, eq-eqb, ne-eqb}
 use lib.Dec.{eqb}
 use native.Mathlib.Nat.{mul-le-mul}
 use Rattle.state.proofs.Tests.{every-fails}
-use Rattle.shape.specs.Parts.{blockOk}
+use Rattle.shape.specs.Parts.{blockTests, blockOk}
 use Rattle.shape.proofs.Bools.{not-of-true}
-use Rattle.shape.proofs.Sound.{blockTests}
 use borrow.Author.Needs.{needs}
 use Rattle.shape.proofs.block_ok.Statement.{statement}
 use Rattle.shape.proofs.block_ok.Tie as tie

@@ -6,8 +6,8 @@ use Rattle.block.specs.Marking.{Painted}
 use Rattle.state.specs.declared.State.{State}
 use Rattle.rules.specs.Turn.{turn}
 use Rattle.rules.specs.Release.{lessUsed}
-use Rattle.facts.proofs.Facts.{count-64, pool-3, placed}
-use Rattle.release.proofs.Leaves.{pool-used}
+use Rattle.facts.proofs.Facts.{placed}
+use Rattle.release.proofs.Leaves.{less-ready}
 use borrow.Author.Needs.{needs}
 use Rattle.shrink.proofs.cut_off.Statement.{statement}
 use Rattle.shrink.proofs.cut_off.Tie as tie
@@ -33,12 +33,8 @@ sub-less-used c = search needs
 less-used-requires : tie.Need-less-used-requires
 less-used-requires c κs =
     let a = c .before .before .before .before .before .before .before .before .before .before .args in
-    let f = c .before .before .before .before .before .before .before .before .before .before .pre .0 .0 in
-    let h = c .before .before .before .before .before .before .before .before .before .before .pre .0 .1 in (
-      omega (arith, h, count-64 (a .t1) (length (a .used .now)) (length (a .stop .now)) f),
-      pool-3 (a .t1) (length (a .used .now)) (length (a .stop .now)) f (a .j) h,
-      omega (arith, c .before .before .before .before .before .before .before .before .before .before .pre .1 .0, pool-used (a .t1) (length (a .used .now)) (length (a .stop .now)) f (a .j) h),
-    )
+    let m = c .before .before .before .before .before .before .before .before .before .before .pre in
+    less-ready (a .t1) (length (a .used .now)) (length (a .stop .now)) (m .0 .0) (a .j) (m .0 .1) _ (m .1 .0)
 
 same-length : tie.Need-same-length
 same-length c = search needs
