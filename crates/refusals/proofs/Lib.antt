@@ -1,0 +1,5 @@
+pub mod Look
+pub mod Search
+pub mod Address
+pub mod Size
+pub mod Exactly
