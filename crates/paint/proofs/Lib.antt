@@ -1,0 +1,4 @@
+pub mod Pieces
+pub mod Marks
+pub mod Paints
+pub mod Count

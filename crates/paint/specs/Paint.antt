@@ -1,0 +1,73 @@
+-- The spans that are out in one block, in units from its base, and what they paint on its two maps. Assumes nothing.
+use Prim.Native.Nat.{ℕ, _+_, _-_, _≤_, _<_}
+use mathlib.Core.List.{List, [], _∷_}
+use mathlib.Core.Bool.{false}
+use mathlib.Core.Logic.{_⊎_}
+use mathlib.Core.Path.{_≡_}
+use lib.Dec.{leb, ltb, eqb}
+use Rattle.numbers.specs.Pick.{pick}
+use Rattle.bits.specs.Bits.{bit}
+use Rattle.block.specs.declared.Block.{Block}
+use Rattle.block.specs.Search.{isDirty}
+use Rattle.block.specs.Window.{Longest}
+
+-- len units from start on
+pub record Piece : Type 0 where
+  pub start : ℕ
+  pub len : ℕ
+
+abbrev pub piece : ℕ → ℕ → Piece
+piece start len = record { start = start; len = len }
+
+-- 1 if the piece has unit k, otherwise 0
+unfoldable pub has : Piece → ℕ → ℕ
+has x k = pick (leb (x .start) k) (pick (ltb k (x .start + x .len)) 1 0) 0
+
+-- 1 if unit k is the piece's last one, otherwise 0
+unfoldable pub ends : Piece → ℕ → ℕ
+ends x k = pick (eqb (x .start + x .len) (k + 1)) 1 0
+
+-- how many pieces have unit k
+unfoldable pub held : List Piece → ℕ → ℕ
+held [] k = 0
+held (x ∷ l) k = has x k + held l k
+
+-- how many pieces end with unit k
+unfoldable pub ended : List Piece → ℕ → ℕ
+ended [] k = 0
+ended (x ∷ l) k = ends x k + ended l k
+
+-- the units of all pieces
+unfoldable pub units : List Piece → ℕ
+units [] = 0
+units (x ∷ l) = x .len + units l
+
+-- every piece has a unit, and none lies past the area
+abbrev pub Inside : List Piece → ℕ → Type 0
+Inside [] area = Unit {0}
+Inside (x ∷ l) area = (0 < x .len) × (x .start + x .len ≤ area) × Inside l area
+
+-- A unit's used bit is the number of pieces that have it, its stop bit the number of pieces that end with it, on all the words of the slot. A bit is 0 or
+-- 1, so no unit is held twice; and a unit that no piece asks for is 0 in both maps.
+pub record Paints (l : List Piece) (area : ℕ) (u t : List ℕ) : Type 0 where
+  pub inside : Inside l area
+  pub used : (k : ℕ) → bit u k ≡ held l k
+  pub stop : (k : ℕ) → bit t k ≡ ended l k
+
+-- n units from start on are a piece of the list
+abbrev pub In : ℕ → ℕ → List Piece → Type 0
+In start n [] = ⊥
+In start n (x ∷ l) = ((x .start ≡ start) × (x .len ≡ n)) ⊎ In start n l
+
+-- the list without its piece at start
+unfoldable pub strike : ℕ → List Piece → List Piece
+strike start [] = []
+strike start (x ∷ l) = pick (eqb (x .start) start) l (x ∷ strike start l)
+
+-- A block's record and its words u and t agree with the pieces: both maps are painted, the used count is the pieces' units, no free unit lies outside the
+-- window, and a block that isn't dirty has its exact largest run
+pub record Sound (b : Block) (u t : List ℕ) (l : List Piece) : Type 0 where
+  pub paints : Paints l (b .area) u t
+  pub count : b .used ≡ units l
+  pub window : (k : ℕ) → k < b .area → bit u k ≡ 0 → (b .start ≤ k) × (k < b .end)
+  pub exact : isDirty b ≡ false → Longest u (b .area) (b .largest)
