@@ -2,6 +2,8 @@ pub mod Pieces
 pub mod Marks
 pub mod Paints
 pub mod Count
+pub mod Lies
 pub mod Sound
+pub mod Slots
 pub mod Stands
 pub mod Back

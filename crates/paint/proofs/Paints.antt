@@ -5,11 +5,11 @@ use mathlib.Core.Logic.{_⊎_, inl, inr, ⊎-elim}
 use mathlib.Core.Path.{_≡_, refl, sym, ap, subst, _∙_}
 use native.Mathlib.Omega.{arith}
 use lib.Dec.{lit<}
-use lib.ListN.{length, replicate}
+use lib.ListN.{length, replicate, length-replicate}
 use Rattle.numbers.proofs.Split.{by-eq, by-le}
-use Rattle.bits.specs.Bits.{bit, filled, Filled}
-use Rattle.bits.proofs.Words.{bit-lt}
-use Rattle.bits.proofs.Fill.{filled-has, length-filled, bit-zeros}
+use Rattle.bits.specs.Bits.{bit, filled, Filled, Words}
+use Rattle.bits.proofs.Words.{bit-lt, words-ext}
+use Rattle.bits.proofs.Fill.{filled-has, length-filled, bit-zeros, words-zeros}
 use Rattle.paint.specs.Paint.{Piece, piece, has, ends, held, ended, Paints, In, strike}
 use Rattle.paint.proofs.Pieces.{by-range, has-in, has-out, ends-at, ends-not, in-inside, Struck}
 use Rattle.paint.proofs.Marks.{held-one, stop-used, struck-out, struck-alone}
@@ -18,6 +18,17 @@ use Rattle.paint.proofs.Marks.{held-one, stop-used, struck-out, struck-
 pub no-pieces : (area w : ℕ) → Paints [] area (replicate w 0) (replicate w 0)
 unfolding held ended
 no-pieces area w = record { inside = tt; used = bit-zeros w; stop = bit-zeros w }
+
+-- and only zero words are painted by no piece
+pub no-pieces-zero : (area : ℕ) (u t : List ℕ) → Paints [] area u t → Words u → Words t
+    → (u ≡ replicate (length u) 0) × (t ≡ replicate (length t) 0)
+unfolding held ended
+no-pieces-zero area u t p hu ht = (zeros u hu (p .used), zeros t ht (p .stop))
+  where
+    zeros : (ws : List ℕ) → Words ws → ((k : ℕ) → bit ws k ≡ 0) → ws ≡ replicate (length ws) 0
+    zeros ws h f =
+        words-ext ws (replicate (length ws) 0) (sym (length-replicate {A = ℕ} (length ws) 0)) h (words-zeros (length ws))
+        (λ k q. f k ∙ sym (bit-zeros (length ws) k))
 
 -- what a filled run leaves as it was, and one bit of it
 out : {ws vs : List ℕ} {a n v : ℕ} → Filled ws a n v vs → (k : ℕ) → (k < a) ⊎ (a + n ≤ k) → bit vs k ≡ bit ws k

@@ -1,33 +1,28 @@
 -- A block's record and words that agree with its pieces still do so after a marking, a release, a shrink and a search that misses. Assumes nothing.
 use Prim.Native.Nat.{ℕ, _+_, _-_, _*_, _≤_, _<_}
-use mathlib.Core.Bool.{Bool, true, false}
 use mathlib.Core.List.{List, [], _∷_}
 use mathlib.Core.Logic.{_⊎_, inl, inr, ⊎-elim}
 use mathlib.Core.Path.{_≡_, refl, sym, ap, subst, _∙_}
 use native.Mathlib.Omega.{arith}
-use lib.Dec.{lit<, eqb}
+use lib.Dec.{lit<}
 use lib.ListN.{length, replicate, length-replicate}
-use Rattle.numbers.specs.Pick.{pick}
 use Rattle.bits.specs.Bits.{bit, ones, filled}
 use Rattle.bits.proofs.Fill.{filled-has, bit-zeros}
 use Rattle.bits.proofs.Count.{ones-all}
-use Rattle.runs.specs.declared.Search.{Search}
-use Rattle.runs.specs.declared.Search.the-variants.{At, Tight, Full}
-use Rattle.runs.specs.Seek.{seek}
 use Rattle.slots.specs.Slots.{slotOf}
 use Rattle.block.specs.declared.Block.{Block}
-use Rattle.block.specs.declared.Looked.{Looked}
-use Rattle.block.specs.declared.Looked.the-variants.{Found, Missed}
-use Rattle.block.specs.Marking.{marked, full, emptied, widened, released, shrunk, fresh}
-use Rattle.block.specs.Search.{looks, looked, lookInto}
+use Rattle.block.specs.declared.Looked.the-variants.{Missed}
+use Rattle.block.specs.Marking.{marked, emptied, released, shrunk, fresh}
+use Rattle.block.specs.Search.{lookInto}
 use Rattle.block.specs.Window.{Longest, Windowed}
 use Rattle.block.proofs.Window.{look-missed}
 use Rattle.block.proofs.Kept.{Ready, windowed-ready, marked-kept, released-kept, shrunk-kept}
 use Rattle.paint.specs.Paint.{Piece, piece, units, Paints, In, strike, Sound}
-use Rattle.paint.proofs.Pieces.{in-inside}
-use Rattle.paint.proofs.Marks.{in-used}
+use Rattle.paint.proofs.Pieces.{no-units, in-inside}
+use Rattle.paint.proofs.Marks.{in-used, struck-out}
 use Rattle.paint.proofs.Paints.{no-pieces, mark-paints, release-paints, shrink-paints}
 use Rattle.paint.proofs.Count.{used-units}
+use Rattle.paint.proofs.Lies.{marked-lies, released-lies, missed-lies}
 
 -- ---- what a block's window promises, and what its pieces paint
 pub sound-windowed : (b : Block) (u t : List ℕ) (l : List Piece) → Sound b u t l → b .area ≤ 32 * length u → b .end ≤ b .area → Windowed b u
@@ -46,30 +41,13 @@ windowed-sound b u t l q p = record { paints = p; count = q .count ∙ used-unit
 windowed-as : (c : Block) (a : ℕ) (u t : List ℕ) (l : List Piece) → c .area ≡ a → Windowed c u → Paints l a u t → Sound c u t l
 windowed-as c a u t l e q p = windowed-sound c u t l q (subst (λ (n : ℕ). Paints l n u t) (sym e) p)
 
--- no change of a record touches its area
-pub marked-area : (b : Block) (i e : ℕ) → marked b i e .area ≡ b .area
-unfolding marked
-marked-area b i e = go (eqb (b .used + (e - i)) (b .area)) (full b (b .used + (e - i))) _ refl refl
-  where
-    go : (x : Bool) (c d : Block) → c .area ≡ b .area → d .area ≡ b .area → pick x c d .area ≡ b .area
-    go true c d p q = p
-    go false c d p q = q
-
-pub released-area : (b : Block) (i e : ℕ) → released b i e .area ≡ b .area
-unfolding released
-released-area b i e = go (eqb (b .used - (e - i)) 0)
-  where
-    go : (x : Bool) → pick x (emptied b) (widened b i e) .area ≡ b .area
-    go true = refl
-    go false = refl
-
 -- ---- the calls at one block
 module _ (b : Block) (u t : List ℕ) (l : List Piece) (s : Sound b u t l) (room : b .area ≤ 32 * length u) (stop-room : b .area ≤ 32 * length t)
     (within : b .end ≤ b .area) where
   pub mark-sound : (i e : ℕ) → i < e → e ≤ b .area → ((k : ℕ) → i ≤ k → k < e → bit u k ≡ 0)
       → Sound (marked b i e) (filled u i (e - i) 1) (filled t (e - 1) 1 1) (piece i (e - i) ∷ l)
   mark-sound i e some fits free =
-      windowed-as (marked b i e) (b .area) (filled u i (e - i) 1) (filled t (e - 1) 1 1) (piece i (e - i) ∷ l) (marked-area b i e)
+      windowed-as (marked b i e) (b .area) (filled u i (e - i) 1) (filled t (e - 1) 1 1) (piece i (e - i) ∷ l) (marked-lies b i e .area)
       (marked-kept b u (filled u i (e - i) 1) i e (windowed-ready i e (sound-windowed b u t l s room within) some fits free)
       (filled-has u i (e - i) 1 (lit< tt) (omega arith)))
       (mark-paints l (b .area) u t (s .paints) room stop-room i e some fits free)
@@ -78,7 +56,7 @@ module _ (b : Block) (u t : List ℕ) (l : List Piece) (s : Sound b u t l) (room
       → Sound (released b i e) (filled u i (e - i) 0) (filled t (e - 1) 1 0) (strike i l)
   release-sound i e some m =
       let f = in-inside l (b .area) i (e - i) (s .paints .inside) m in
-      windowed-as (released b i e) (b .area) (filled u i (e - i) 0) (filled t (e - 1) 1 0) (strike i l) (released-area b i e)
+      windowed-as (released b i e) (b .area) (filled u i (e - i) 0) (filled t (e - 1) 1 0) (strike i l) (released-lies b i e .area)
       (released-kept b u (filled u i (e - i) 0) i e (sound-windowed b u t l s room within) some (omega arith)
       (λ k x y. in-used l (b .area) u t (s .paints) i (e - i) k m x (omega arith)) (filled-has u i (e - i) 0 (lit< tt) (omega arith)))
       (release-paints l (b .area) u t (s .paints) room stop-room i e some m)
@@ -92,6 +70,16 @@ module _ (b : Block) (u t : List ℕ) (l : List Piece) (s : Sound b u t l) (room
       (shrunk-kept b u (filled u m (e - m) 0) m e (sound-windowed b u t l s room within) less (omega arith)
       (λ k x y. in-used l (b .area) u t (s .paints) i (e - i) k mem (omega arith) (omega arith)) (filled-has u m (e - m) 0 (lit< tt) (omega arith)))
       (shrink-paints l (b .area) u t (s .paints) room stop-room i m e some less mem)
+
+  -- the block's last span: no piece is left
+  pub release-last : (i e : ℕ) → i < e → In i (e - i) l → b .used - (e - i) ≡ 0 → strike i l ≡ []
+  release-last i e some m z =
+      let r = struck-out l (b .area) u t (s .paints) i (e - i) m in
+      no-units (strike i l) (b .area) (r .inside) (omega (arith, r .all, s .count))
+
+  -- no unit used: no piece
+  pub empty-none : b .used ≡ 0 → l ≡ []
+  empty-none z = no-units l (b .area) (s .paints .inside) (sym (s .count) ∙ z)
 
 -- ---- a block with no piece, and a new one with its span at unit 0
 pub emptied-sound : (b : Block) (w : ℕ) → Sound (emptied b) (replicate w 0) (replicate w 0) []
@@ -111,7 +99,7 @@ fresh-sound base size pool slot area n w pos fits h =
     let long : length z ≡ w = length-replicate {A = ℕ} w 0 in
     let all : n - 0 ≡ n = omega arith in
     subst (λ (m : ℕ). Sound (marked b 0 n) (filled z 0 m 1) (filled z (n - 1) 1 1) (piece 0 m ∷ [])) all
-    (windowed-as (marked b 0 n) area (filled z 0 (n - 0) 1) (filled z (n - 1) 1 1) (piece 0 (n - 0) ∷ []) (marked-area b 0 n)
+    (windowed-as (marked b 0 n) area (filled z 0 (n - 0) 1) (filled z (n - 1) 1 1) (piece 0 (n - 0) ∷ []) (marked-lies b 0 n .area)
     (marked-kept b z (filled z 0 (n - 0) 1) 0 n
     (record {
       room = omega arith;
@@ -126,27 +114,9 @@ fresh-sound base size pool slot area n w pos fits h =
     (mark-paints [] area z z (no-pieces area w) (omega arith) (omega arith) 0 n pos fits (λ k x y. bit-zeros w k)))
 
 -- ---- a search that misses
-areaOf : Looked → ℕ
-areaOf (Found i) = 0
-areaOf (Missed c) = c .area
-
-looked-area : (b : Block) (r : Search) (c : Block) → looked b r ≡ Missed c → c .area ≡ b .area
-unfolding areaOf
-looked-area b (At i) c e = let z : _≡_ {A = ℕ} 0 1 = cc in absurd (omega arith)
-looked-area b (Tight first last longest) c e = ap areaOf (sym e)
-looked-area b Full c e = ap areaOf (sym e)
-
-pub missed-area : (w : ℕ) (b : Block) (ws : List ℕ) (n : ℕ) (c : Block) → lookInto w b ws n ≡ Missed c → c .area ≡ b .area
-unfolding lookInto
-missed-area w b ws n c e = go (looks b n) e
-  where
-    go : (x : Bool) → pick x (looked b (seek (slotOf w (b .slot) ws) (b .start) (b .end) n)) (Missed b) ≡ Missed c → c .area ≡ b .area
-    go true e = looked-area b (seek (slotOf w (b .slot) ws) (b .start) (b .end) n) c e
-    go false e = looked-area b Full c e
-
 pub tight-sound : (w : ℕ) (b : Block) (ws t : List ℕ) (l : List Piece) (n : ℕ) → Sound b (slotOf w (b .slot) ws) t l
     → b .area ≤ 32 * length (slotOf w (b .slot) ws) → b .end ≤ b .area → 0 < n
     → (c : Block) → lookInto w b ws n ≡ Missed c → Sound c (slotOf w (b .slot) ws) t l
 tight-sound w b ws t l n s room within pos c e =
     let u = slotOf w (b .slot) ws in
-    windowed-as c (b .area) u t l (missed-area w b ws n c e) (look-missed w b ws n (sound-windowed b u t l s room within) pos c e .1) (s .paints)
+    windowed-as c (b .area) u t l (missed-lies w b ws n c e .area) (look-missed w b ws n (sound-windowed b u t l s room within) pos c e .1) (s .paints)
