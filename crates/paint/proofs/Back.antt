@@ -1,14 +1,14 @@
 -- Marking undone by release: both maps are as they were, word by word (`strike-new` says it of the pieces). Assumes nothing.
 use Prim.Native.Nat.{ℕ, _+_, _-_, _*_, _≤_, _<_}
 use mathlib.Core.List.{List}
-use mathlib.Core.Path.{_≡_, refl, sym, ap, _∙_}
+use mathlib.Core.Path.{_≡_, sym}
 use native.Mathlib.Omega.{arith}
 use lib.Dec.{lit<}
 use lib.ListN.{length}
 use Rattle.bits.specs.Bits.{bit, filled, Words}
-use Rattle.bits.proofs.Fill.{filled-has, filled-is, length-filled, words-filled}
+use Rattle.bits.proofs.Fill.{filled-has, filled-is, words-filled}
 use Rattle.paint.specs.Paint.{Piece, Paints}
-use Rattle.paint.proofs.Marks.{stop-used}
+use Rattle.paint.proofs.Paints.{stop-used}
 
 -- n bits that were all v are made x, and then v again
 pub filled-back : (ws : List ℕ) (a n v x : ℕ) → v < 2 → x < 2 → Words ws → a + n ≤ 32 * length ws → ((k : ℕ) → a ≤ k → k < a + n → bit ws k ≡ v)

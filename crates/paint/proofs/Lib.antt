@@ -1,6 +1,6 @@
 pub mod Pieces
-pub mod Marks
 pub mod Paints
+pub mod Marking
 pub mod Count
 pub mod Lies
 pub mod Sound

@@ -1,14 +1,14 @@
 -- What the rules do to a block and to its slot of both maps keeps the slot's words painted by the block's pieces. Assumes nothing.
 use Prim.Native.Nat.{ℕ, _+_, _-_, _*_, _≤_, _<_}
 use mathlib.Core.List.{List, [], _∷_}
-use mathlib.Core.Path.{_≡_, refl, sym, ap, subst, _∙_}
+use mathlib.Core.Path.{_≡_, subst, _∙_}
 use native.Mathlib.Nat.{zero-add}
 use native.Mathlib.Omega.{arith}
 use lib.ListN.{length, replicate, length-replicate}
-use Rattle.bits.specs.Bits.{bit, filled}
+use Rattle.bits.specs.Bits.{filled}
 use Rattle.bits.proofs.Fill.{length-filled}
 use Rattle.runs.specs.Window.{FreeAt}
-use Rattle.slots.specs.Slots.{slotOf, putSlot, fillSlot}
+use Rattle.slots.specs.Slots.{slotOf, fillSlot}
 use Rattle.slots.proofs.Laws.{length-slot, length-put-slot, slot-own}
 use Rattle.block.specs.declared.Block.{Block}
 use Rattle.block.specs.declared.Looked.the-variants.{Missed}

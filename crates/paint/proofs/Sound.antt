@@ -1,12 +1,12 @@
 -- A block's record and words that agree with its pieces still do so after a marking, a release, a shrink and a search that misses. Assumes nothing.
-use Prim.Native.Nat.{ℕ, _+_, _-_, _*_, _≤_, _<_}
+use Prim.Native.Nat.{ℕ, _-_, _*_, _≤_, _<_}
 use mathlib.Core.List.{List, [], _∷_}
-use mathlib.Core.Logic.{_⊎_, inl, inr, ⊎-elim}
-use mathlib.Core.Path.{_≡_, refl, sym, ap, subst, _∙_}
+use mathlib.Core.Logic.{⊎-elim}
+use mathlib.Core.Path.{_≡_, refl, sym, subst, _∙_}
 use native.Mathlib.Omega.{arith}
 use lib.Dec.{lit<}
 use lib.ListN.{length, replicate, length-replicate}
-use Rattle.bits.specs.Bits.{bit, ones, filled}
+use Rattle.bits.specs.Bits.{bit, filled}
 use Rattle.bits.proofs.Fill.{filled-has, bit-zeros}
 use Rattle.bits.proofs.Count.{ones-all}
 use Rattle.slots.specs.Slots.{slotOf}
@@ -14,13 +14,13 @@ use Rattle.block.specs.declared.Block.{Block}
 use Rattle.block.specs.declared.Looked.the-variants.{Missed}
 use Rattle.block.specs.Marking.{marked, emptied, released, shrunk, fresh}
 use Rattle.block.specs.Search.{lookInto}
-use Rattle.block.specs.Window.{Longest, Windowed}
+use Rattle.block.specs.Window.{Windowed}
 use Rattle.block.proofs.Window.{look-missed}
-use Rattle.block.proofs.Kept.{Ready, windowed-ready, marked-kept, released-kept, shrunk-kept}
+use Rattle.block.proofs.Kept.{windowed-ready, marked-kept, released-kept, shrunk-kept}
 use Rattle.paint.specs.Paint.{Piece, piece, units, Paints, In, strike, Sound}
 use Rattle.paint.proofs.Pieces.{no-units, in-inside}
-use Rattle.paint.proofs.Marks.{in-used, struck-out}
-use Rattle.paint.proofs.Paints.{no-pieces, mark-paints, release-paints, shrink-paints}
+use Rattle.paint.proofs.Paints.{in-used, struck-out}
+use Rattle.paint.proofs.Marking.{no-pieces, mark-paints, release-paints, shrink-paints}
 use Rattle.paint.proofs.Count.{used-units}
 use Rattle.paint.proofs.Lies.{marked-lies, released-lies, missed-lies}
 

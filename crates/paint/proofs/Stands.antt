@@ -7,20 +7,18 @@ use mathlib.Core.Path.{_≡_, refl, sym, ap, subst, _∙_}
 use native.Mathlib.Omega.{arith}
 use lib.Dec.{eqb}
 use borrow.Author.Tests.{eq-eqb, ne-eqb, eqb-true}
-use Rattle.numbers.specs.Pick.{pick}
 use Rattle.numbers.proofs.Split.{by-eq, not-both}
 use Rattle.bits.specs.Bits.{bit}
-use Rattle.state.specs.declared.Found.{Found}
-use Rattle.state.specs.declared.Found.the-variants.{At, Nothing}
+use Rattle.state.specs.declared.Found.the-variants.{At}
 use Rattle.state.specs.declared.Held.{Held}
 use Rattle.state.specs.declared.Held.the-variants.{NoSpan, NoStop, Units}
 use Rattle.state.specs.Find.{leastFrom}
-use Rattle.state.proofs.Find.{Least, least-is, least-unique}
+use Rattle.state.proofs.Find.{least-is, least-unique}
 use Rattle.state.proofs.Tests.{and-left, and-right}
 use Rattle.rules.specs.Span.{starts, upTo, heldAt}
 use Rattle.paint.specs.Paint.{Piece, Paints, In}
 use Rattle.paint.proofs.Pieces.{in-inside, held-in}
-use Rattle.paint.proofs.Marks.{in-used, in-stop, in-last, before}
+use Rattle.paint.proofs.Paints.{in-used, in-stop, in-last, before}
 
 -- one of two tests passes
 or-left : (a b : Bool) → a ≡ true → a || b ≡ true
