@@ -41,6 +41,18 @@ windowed-sound b u t l q p = record { paints = p; count = q .count ∙ used-unit
 windowed-as : (c : Block) (a : ℕ) (u t : List ℕ) (l : List Piece) → c .area ≡ a → Windowed c u → Paints l a u t → Sound c u t l
 windowed-as c a u t l e q p = windowed-sound c u t l q (subst (λ (n : ℕ). Paints l n u t) (sym e) p)
 
+-- ---- an empty block has no piece
+module _ (b : Block) (u t : List ℕ) (l : List Piece) (s : Sound b u t l) where
+  -- the block's last span: no piece is left
+  pub release-last : (i e : ℕ) → i < e → In i (e - i) l → b .used - (e - i) ≡ 0 → strike i l ≡ []
+  release-last i e some m z =
+      let r = struck-out l (b .area) u t (s .paints) i (e - i) m in
+      no-units (strike i l) (b .area) (r .inside) (omega (arith, r .all, s .count))
+
+  -- no unit used: no piece
+  pub empty-none : b .used ≡ 0 → l ≡ []
+  empty-none z = no-units l (b .area) (s .paints .inside) (sym (s .count) ∙ z)
+
 -- ---- the calls at one block
 module _ (b : Block) (u t : List ℕ) (l : List Piece) (s : Sound b u t l) (room : b .area ≤ 32 * length u) (stop-room : b .area ≤ 32 * length t)
     (within : b .end ≤ b .area) where
@@ -70,16 +82,6 @@ module _ (b : Block) (u t : List ℕ) (l : List Piece) (s : Sound b u t l) (room
       (shrunk-kept b u (filled u m (e - m) 0) m e (sound-windowed b u t l s room within) less (omega arith)
       (λ k x y. in-used l (b .area) u t (s .paints) i (e - i) k mem (omega arith) (omega arith)) (filled-has u m (e - m) 0 (lit< tt) (omega arith)))
       (shrink-paints l (b .area) u t (s .paints) room stop-room i m e some less mem)
-
-  -- the block's last span: no piece is left
-  pub release-last : (i e : ℕ) → i < e → In i (e - i) l → b .used - (e - i) ≡ 0 → strike i l ≡ []
-  release-last i e some m z =
-      let r = struck-out l (b .area) u t (s .paints) i (e - i) m in
-      no-units (strike i l) (b .area) (r .inside) (omega (arith, r .all, s .count))
-
-  -- no unit used: no piece
-  pub empty-none : b .used ≡ 0 → l ≡ []
-  empty-none z = no-units l (b .area) (s .paints .inside) (sym (s .count) ∙ z)
 
 -- ---- a block with no piece, and a new one with its span at unit 0
 pub emptied-sound : (b : Block) (w : ℕ) → Sound (emptied b) (replicate w 0) (replicate w 0) []
