@@ -1,2 +1,12 @@
 pub mod Sums
 pub mod After
+pub mod Cases
+pub mod Sized
+pub mod Soft
+pub mod Request
+pub mod Words
+pub mod Head
+pub mod Pools
+pub mod Put
+pub mod Enter
+pub mod Leave
