@@ -81,7 +81,7 @@ searchFor s u bytes = searchPool s u (poolFor s bytes) (unitsFor s bytes)
 abbrev pub newSize : State → ℕ → ℕ → ℕ
 newSize r p bytes = idealSize (newestSize r p) bytes
 
-pub record Makes (r : State) (p bytes at slot : ℕ) : Type 0 where
+pub record Places (r : State) (p bytes at slot : ℕ) : Type 0 where
   pub place : Address at ≡ lowestPlace r (newSize r p bytes)
   pub free : slotAt slot ≡ lowestSlot r
   pub words : unitsOf (unitsOf (newSize r p bytes) (poolAt r p .granularity)) 32 ≤ r .w
@@ -226,7 +226,7 @@ module _ (P : Turn → Type 0) (s : State) (u t : List ℕ) where
     module _ (size : ℕ)
         (full : (bytes : ℕ) → Seeks s u t size bytes → P (refuse NoMapping (searchFor s u bytes .state) u t))
         (hit : (bytes j i : ℕ) → Seeks s u t size bytes → searchFor s u bytes .hit ≡ At j i → P (markTurn (searchFor s u bytes .state) u t j i (unitsFor s bytes)))
-        (make : (bytes at slot : ℕ) → Seeks s u t size bytes → Makes (searchFor s u bytes .state) (poolFor s bytes) bytes at slot
+        (make : (bytes at slot : ℕ) → Seeks s u t size bytes → Places (searchFor s u bytes .state) (poolFor s bytes) bytes at slot
         → P (makeTurn (searchFor s u bytes .state) u t (poolFor s bytes) (unitsFor s bytes) (newSize (searchFor s u bytes .state) (poolFor s bytes) bytes) at slot)) where
       placed : (bytes : ℕ) → Seeks s u t size bytes → (x : Place) (f : Found)
           → x ≡ lowestPlace (searchFor s u bytes .state) (newSize (searchFor s u bytes .state) (poolFor s bytes) bytes) → f ≡ lowestSlot (searchFor s u bytes .state)

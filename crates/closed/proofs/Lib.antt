@@ -10,3 +10,6 @@ pub mod Pools
 pub mod Put
 pub mod Enter
 pub mod Leave
+pub mod Records
+pub mod Searched
+pub mod Mark

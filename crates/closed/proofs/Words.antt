@@ -35,7 +35,7 @@ use Rattle.rules.specs.Reset.{clearBlocks}
 use Rattle.rules.specs.Machine.{Call, create, alloc, release, shrink, query, softReset, hardReset, step}
 use Rattle.closed.specs.Sized.{Sized}
 use Rattle.closed.proofs.After.{inserted-new, less-block}
-use Rattle.closed.proofs.Cases.{Holds, Frees, Cuts, Seeks, Makes, poolFor, unitsFor, searchFor, newSize, settle-cases, create-cases, query-cases, release-cases, shrink-cases, reset-cases, alloc-cases}
+use Rattle.closed.proofs.Cases.{Holds, Frees, Cuts, Seeks, Places, poolFor, unitsFor, searchFor, newSize, settle-cases, create-cases, query-cases, release-cases, shrink-cases, reset-cases, alloc-cases}
 use Rattle.closed.proofs.Sized.{sized-search}
 use Rattle.closed.proofs.Request.{seeks-some, seeks-left}
 
@@ -119,7 +119,7 @@ module _ (s : State) (u t : List ℕ) (z : Sized s) where
       let p = subst (Place u (length t) (poolFor s bytes) (unitsFor s bytes) (seeks-some s u t size bytes k) r) e (l .place) in
       mark-long r u t j i (unitsFor s bytes) (slot-room r (length u) (length t) (l .shaped) (blockAt r j .slot) (l .shaped .sound j (p .0) .slot))
 
-  make : (size bytes at slot : ℕ) → Seeks s u t size bytes → Makes (searchFor s u bytes .state) (poolFor s bytes) bytes at slot
+  make : (size bytes at slot : ℕ) → Seeks s u t size bytes → Places (searchFor s u bytes .state) (poolFor s bytes) bytes at slot
       → Long u t (makeTurn (searchFor s u bytes .state) u t (poolFor s bytes) (unitsFor s bytes) (newSize (searchFor s u bytes .state) (poolFor s bytes) bytes) at slot)
   make size bytes at slot k m =
       let l = seeks-left s u t size bytes k z in
