@@ -13,3 +13,4 @@ pub mod Leave
 pub mod Records
 pub mod Searched
 pub mod Mark
+pub mod Free

@@ -10,7 +10,7 @@ use Rattle.block.specs.declared.Block.{Block}
 use Rattle.block.specs.Marking.{marked}
 use Rattle.sizes.specs.declared.Pool.{Pool}
 use Rattle.state.specs.declared.State.{State}
-use Rattle.state.specs.Table.{blockAt, poolAt, sum, one}
+use Rattle.state.specs.Table.{blockAt, poolAt, one}
 use Rattle.state.specs.Shape.{isEmpty, goodShape}
 use Rattle.shape.specs.Shaped.{Shaped}
 use Rattle.facts.proofs.Facts.{count-64, pool-3}
@@ -19,10 +19,10 @@ use Rattle.alloc.proofs.Pool.{hit-ready}
 use Rattle.rules.specs.Turn.{putBlock, putPool, withCounts}
 use Rattle.rules.specs.Alloc.{markTurn}
 use Rattle.closed.specs.Sized.{Sized}
-use Rattle.closed.proofs.After.{put-block, put-block-other, put-pool, put-pool-other}
+use Rattle.closed.proofs.After.{put-block, put-block-other, put-block-used, put-pool, put-pool-other}
 use Rattle.closed.proofs.Sized.{sized-block}
 use Rattle.closed.proofs.Pools.{Recounted, empties-before}
-use Rattle.closed.proofs.Put.{put-sum, put-good}
+use Rattle.closed.proofs.Put.{put-good}
 use Rattle.closed.proofs.Records.{bare, Changed, marked-changed}
 
 module _ (s : State) (v w : ℕ) (f : Shaped s v w) (z : Sized s) (j i n : ℕ) (h : j < s .count) (some : 0 < n) (fits : Fits (blockAt s j) n i) where
@@ -62,12 +62,7 @@ module _ (s : State) (v w : ℕ) (f : Shaped s v w) (z : Sized s) (j i n : ℕ) 
   mark-good u t =
       put-good s v w f j h c (s .live + 1) (set (s .blocks) j c) (set (s .pool) p q) (put-block s z j c low) (put-block-other s z j c low) (changed .lies) (changed .sound)
       (subst (λ (x : Pool). Recounted (poolAt s p) x b c) (sym own) counted) (put-pool-other (putBlock s j c) (sized-block s z j c) p q) few
-      (omega (arith, sums, changed .used-is, f .live))
+      (omega (arith, put-block-used s z j c low h, changed .used-is, f .live))
     where
       few : poolAt (putPool (putBlock s j c) p q) p .empty ≤ pick (s .immediate) 0 1
       few = subst (λ (x : Pool). x .empty ≤ pick (s .immediate) 0 1) (sym own) (omega (arith, empties-before s v w f p (pool-3 s v w f j h)))
-
-      sums : sum (s .count) (λ k. blockAt (putBlock s j c) k .used) + b .used ≡ sum (s .count) (λ k. blockAt s k .used) + c .used
-      sums =
-          put-sum s v w f j h c (s .live + 1) (set (s .blocks) j c) (set (s .pool) p q) (put-block s z j c low) (put-block-other s z j c low) (changed .lies) (changed .sound)
-          (subst (λ (x : Pool). Recounted (poolAt s p) x b c) (sym own) counted) (put-pool-other (putBlock s j c) (sized-block s z j c) p q) few

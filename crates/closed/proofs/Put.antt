@@ -61,9 +61,6 @@ module _ (s : State) (u t : ℕ) (f : Shaped s u t) (j : ℕ) (h : j < s .count)
       sum-put (s .count) (λ i. g (getD blocks i zeroBlock)) (λ i. g (blockAt s i)) j h (λ i l ne. ap g (there i ne))
       ∙ ap (λ (c : Block). sum (s .count) (λ i. g (blockAt s i)) + g c) here
 
-  pub put-sum : sum (s .count) (λ i. getD blocks i zeroBlock .used) + blockAt s j .used ≡ sum (s .count) (λ i. blockAt s i .used) + b .used
-  put-sum = moved (λ c. c .used)
-
   pools-are : (p : ℕ) → p < 3 → poolAt after p ≡ poolSum after (s .count) p
   pools-are p l =
       pool-after s after p (adds p (blockAt s j)) (adds p b) refl (f .pools p l)
