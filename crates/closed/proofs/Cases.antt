@@ -115,7 +115,7 @@ module _ (P : Turn → Type 0) (s : State) (u t : List ℕ) where
       (or-false-right kept (s .immediate) c)))
 
   -- ---- create: refused, the record before it stays
-  pub create-cases : (a : Asked) → P (refuse InvalidArgument s u t)
+  pub create-cases : (a : Asked) → (grantable a (length u) (length t) ≡ false → P (refuse InvalidArgument s u t))
       → (grantable a (length u) (length t) ≡ true → P (granted a (slotsOf (a .w) (length u) (length t)) u t))
       → P (orBefore s (createTurn a u t) (createTurn a u t .answer))
   unfolding createTurn
@@ -124,7 +124,7 @@ module _ (P : Turn → Type 0) (s : State) (u t : List ℕ) where
       go : (ok : Bool) → grantable a (length u) (length t) ≡ ok
           → let x = pick ok (granted a (slotsOf (a .w) (length u) (length t)) u t) (refuse InvalidArgument zeroState u t) in P (orBefore s x (x .answer))
       go true e = does e
-      go false e = refused
+      go false e = refused e
 
   module _ (refused : (why : Refusal) → P (refuse why s u t)) where
     -- a bad shape is refused, whatever the call

@@ -169,9 +169,6 @@ module _ (s : State) (u t : ℕ) (f : Shaped s u t) (b : Block) (live : ℕ) (bl
   more : (g : Block → ℕ) → sum (s .count + 1) (λ i. g (getD blocks i zeroBlock)) + 0 ≡ sum (s .count) (λ i. g (blockAt s i)) + g b
   more g = omega (arith, moved g)
 
-  pub enter-sum : sum (s .count + 1) (λ i. getD blocks i zeroBlock .used) ≡ sum (s .count) (λ i. blockAt s i .used) + b .used
-  enter-sum = moved (λ c. c .used)
-
   pools-are : (p : ℕ) → p < 3 → poolAt after p ≡ poolSum after (s .count + 1) p
   pools-are p l =
       pool-after s after p nothing (adds p b) refl (f .pools p l)
@@ -184,7 +181,7 @@ module _ (s : State) (u t : ℕ) (f : Shaped s u t) (b : Block) (live : ℕ) (bl
       (λ e. subst (λ (q : ℕ). getD pool q (freshPool 0) .empty ≤ pick (s .immediate) 0 1) (sym e) few)
       (λ ne. subst (λ (q : Pool). q .empty ≤ pick (s .immediate) 0 1) (sym (other p ne)) (empties-before s u t f p l))
 
-  pub enter-good : live ≤ sum (s .count + 1) (λ i. getD blocks i zeroBlock .used) → goodShape after u t ≡ true
+  pub enter-good : live ≤ sum (s .count) (λ i. blockAt s i .used) + b .used → goodShape after u t ≡ true
   enter-good enough =
       enough-good after u t (record {
         head = head-kept s live (s .count + 1) blocks order pool (f .head) (omega (arith, room));
@@ -193,7 +190,7 @@ module _ (s : State) (u t : ℕ) (f : Shaped s u t) (b : Block) (live : ℕ) (bl
         slots-apart = apart;
         pools = pools-are;
         empties = λ p l. empties-after after p (pools-are p l) (few-empty p l);
-        live = enough;
+        live = omega (arith, moved (λ c. c .used));
         age-low = ages-low;
         next = next;
         zeros = λ i l n. subst (λ (c : Block). isZero c ≡ true) (sym (old i (λ e. omega arith))) (f .zeros i (omega arith) n);

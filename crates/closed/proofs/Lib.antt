@@ -14,3 +14,8 @@ pub mod Records
 pub mod Searched
 pub mod Mark
 pub mod Free
+pub mod Empty
+pub mod Make
+pub mod Kept
+pub mod Closed
+pub mod Open

@@ -98,7 +98,7 @@ module _ (s : State) (u t : List ℕ) (z : Sized s) where
 
   -- ---- any call
   pub sized-kept : (c : Call) → Sized (step s u t c .state)
-  sized-kept (create a) = create-cases Left s u t a z (λ e. record { blocks = refl; order = refl; pools = refl })
+  sized-kept (create a) = create-cases Left s u t a (λ e. z) (λ e. record { blocks = refl; order = refl; pools = refl })
   sized-kept (alloc size) =
       alloc-cases Left s u t (λ why. z) size
       (λ bytes k. sized-search s z u (poolFor s bytes) (unitsFor s bytes))

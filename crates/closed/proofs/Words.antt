@@ -27,7 +27,7 @@ use Rattle.alloc.proofs.Made.{length-cleared}
 use Rattle.reset.proofs.Clear.{length-clear}
 use Rattle.release.proofs.Leaves.{released-stays}
 use Rattle.rules.specs.Turn.{Turn, withLive, clearSlot}
-use Rattle.rules.specs.Create.{Asked, slotsOf}
+use Rattle.rules.specs.Create.{Asked, slotsOf, granted}
 use Rattle.rules.specs.Alloc.{markTurn, makeTurn}
 use Rattle.rules.specs.Release.{lessUsed, freeTurn, releaseTurn}
 use Rattle.rules.specs.Shrink.{cutTurn}
@@ -70,6 +70,12 @@ make-long s u t p n size at slot z h r =
     let room : Room (s .w) slot v w = (omega (arith, c .0, r .0), omega (arith, c .1, r .1)) in
     let m = mark-long (inserted s b) v w (s .count) 0 n (subst (λ (k : ℕ). Room (s .w) k v w) (sym e) room) in
     (m .0 ∙ c .0, m .1 ∙ c .1)
+
+pub created-long : (a : Asked) (u t : List ℕ) → Long u t (granted a (slotsOf (a .w) (length u) (length t)) u t)
+created-long a u t =
+    let room = slots-room (a .w) (length u) (length t) in
+    let n = slotsOf (a .w) (length u) (length t) * a .w in
+    (length-cleared-front n u (room .0), length-cleared-front n t (room .1))
 
 module _ (s : State) (u t : List ℕ) (z : Sized s) where
   -- the slot of a block that was found
@@ -132,11 +138,7 @@ module _ (s : State) (u t : List ℕ) (z : Sized s) where
   -- ---- any call
   pub words-kept : (c : Call) → Long u t (step s u t c)
   words-kept (create a) =
-      create-cases (Long u t) s u t a (refl, refl)
-      (λ e.
-      let room = slots-room (a .w) (length u) (length t) in
-      let n = slotsOf (a .w) (length u) (length t) * a .w in
-      (length-cleared-front n u (room .0), length-cleared-front n t (room .1)))
+      create-cases (Long u t) s u t a (λ e. (refl, refl)) (λ e. created-long a u t)
   words-kept (alloc size) = alloc-cases (Long u t) s u t (λ why. (refl, refl)) size (λ bytes k. (refl, refl)) (hit size) (make size)
   words-kept (release a) = released-long a
   words-kept (shrink a size) = shrink-cases (Long u t) s u t (λ why. (refl, refl)) a size (released-long a) (λ j i e n k. (refl, refl)) (cut a size)
