@@ -12,7 +12,6 @@ use state::State;
 ghost use mathlib.Core.Path.{_≡_};
 ghost use Prim.Native.Nat.{_+_, _*_, _^_, _<_, _≤_};
 ghost use lib.ListN.{length};
-ghost use Rattle.state.specs.declared.Answer.the-variants.{Refused};
 ghost use lib.Dec.{eqb};
 ghost use Rattle.numbers.specs.Pick.{pick};
 ghost use Rattle.sizes.specs.declared.Rounded.the-variants.{To};
@@ -60,15 +59,6 @@ fn mark_span(s: State, used: &mut [u32], stop: &mut [u32], j: usize, i: u32, n: 
     }
 }
 
-fn refused(s: State, why: Refusal) -> Outcome
-    ensures { λ r. ⌜ (r .answer ≡ Refused why) × (r .state ≡ s) ⌝ }
-{
-    Outcome {
-        answer: Answer::Refused(why),
-        state: s,
-    }
-}
-
 // A block at its place and slot, with a span of `n` units at unit 0.
 fn make_span(s: State, used: &mut [u32], stop: &mut [u32], b: Block, n: u32) -> Outcome
     requires { ⌜ Makeable s (length (now used)) (length (now stop)) b n ⌝ }
@@ -90,17 +80,17 @@ fn new_span(s: State, used: &mut [u32], stop: &mut [u32], p: usize, n: u32, byte
 {
     let place = table::lowest_place(s, bytes);
     let Place::Address(at) = place else {
-        return refused(s, Refusal::NoMapping);
+        return state::refused(s, Refusal::NoMapping);
     };
     let slot = table::lowest_free_slot(s);
     let Found::At(k) = slot else {
-        return refused(s, Refusal::NoMapping);
+        return state::refused(s, Refusal::NoMapping);
     };
     let pool = s.pool[p];
     let area = numbers::area_size_from_byte_size(bytes, pool.granularity);
     let words = numbers::area_size_from_byte_size(area as u64, 32);
     if s.w < words as usize {
-        return refused(s, Refusal::NoMapping);
+        return state::refused(s, Refusal::NoMapping);
     }
     let b = block::new_block(at, bytes, p, k, area, n);
     make_span(s, used, stop, b, n)
@@ -143,11 +133,11 @@ pub fn alloc(s: State, used: &mut [u32], stop: &mut [u32], size: u64) -> Outcome
     ensures { λ r. ⌜ turn (r .answer) (r .state) (now (used .exit)) (now (stop .exit)) ≡ allocTurn s (now (used .entry)) (now (stop .entry)) size ⌝ }
 {
     if !shape::shape_ok(s, used.len(), stop.len()) {
-        return refused(s, Refusal::BadShape);
+        return state::refused(s, Refusal::BadShape);
     }
     let rounded = sizes::round_size(size, s.g);
     match rounded {
         Rounded::To(bytes) => alloc_rounded(s, used, stop, bytes),
-        Rounded::Refused(number) => refused(s, size_refusal(number)),
+        Rounded::Refused(number) => state::refused(s, size_refusal(number)),
     }
 }

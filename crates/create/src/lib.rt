@@ -117,9 +117,7 @@ pub fn create(
 {
     let words = w as usize;
     if !is_grantable(words, arena, length, used.len(), stop.len()) {
-        let answer = Answer::Refused(Refusal::InvalidArgument);
-        let state = state::zero_state();
-        return Outcome { answer, state };
+        return state::refused(state::zero_state(), Refusal::InvalidArgument);
     }
     let slots = slots_of(words, used.len(), stop.len());
     let n = slots * words;

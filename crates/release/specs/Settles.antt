@@ -1,14 +1,8 @@
--- An outcome that changes nothing, and what is shown of a block before it settles. Assumes nothing.
+-- What is shown of a block before it settles. Assumes nothing.
 use Prim.Native.Nat.{ℕ, _+_, _*_, _^_, _≤_, _<_}
 use Rattle.state.specs.declared.State.{State}
-use Rattle.state.specs.declared.Refusal.{Refusal}
-use Rattle.state.specs.declared.Answer.the-variants.{Refused}
-use Rattle.state.specs.declared.Outcome.{Outcome}
 use Rattle.state.specs.Table.{blockAt}
 use Rattle.change.specs.Ready.{Leaves}
-
-abbrev pub refusal : State → Refusal → Outcome
-refusal s why = record { answer = Refused why; state = s }
 
 -- the block may leave the table, and its slot lies within both maps
 pub record Settles (s : State) (j usedWords stopWords : ℕ) : Type 0 where

@@ -17,17 +17,7 @@ ghost use Rattle.state.specs.Table.{blockAt, poolAt};
 ghost use Rattle.shape.specs.Shaped.{Shaped};
 ghost use Rattle.rules.specs.Turn.{turn, withLive};
 ghost use Rattle.rules.specs.Release.{lessUsed, settle, releaseTurn};
-ghost use Rattle.release.specs.Settles.{refusal, Settles};
-
-// Nothing changes.
-pub fn refused(s: State, why: Refusal) -> Outcome
-    ensures { λ r. ⌜ r ≡ refusal s why ⌝ }
-{
-    Outcome {
-        answer: Answer::Refused(why),
-        state: s,
-    }
-}
+ghost use Rattle.release.specs.Settles.{Settles};
 
 // `n` units of block `j`, whose record becomes `b`, are no longer used.
 pub fn less_used(s: State, j: usize, b: Block, n: u32) -> State
@@ -89,14 +79,14 @@ pub fn release(s: State, used: &mut [u32], stop: &mut [u32], address: u64) -> Ou
     ensures { λ r. ⌜ turn (r .answer) (r .state) (now (used .exit)) (now (stop .exit)) ≡ releaseTurn s (now (used .entry)) (now (stop .entry)) address ⌝ }
 {
     if !shape::shape_ok(s, used.len(), stop.len()) {
-        return refused(s, Refusal::BadShape);
+        return state::refused(s, Refusal::BadShape);
     }
     if address == 0 {
-        return refused(s, Refusal::InvalidArgument);
+        return state::refused(s, Refusal::InvalidArgument);
     }
     let found = table::lookup_block(s, address);
     let Found::At(j) = found else {
-        return refused(s, Refusal::InvalidState);
+        return state::refused(s, Refusal::InvalidState);
     };
     let b = s.blocks[j];
     let p = b.pool;
@@ -104,11 +94,11 @@ pub fn release(s: State, used: &mut [u32], stop: &mut [u32], address: u64) -> Ou
     let unit = pool.granularity;
     let held = spans::held_in(b, used, stop, s.w, unit, address);
     match held {
-        Held::NoSpan => refused(s, Refusal::InvalidArgument),
-        Held::NoStop => refused(s, Refusal::Damaged),
+        Held::NoSpan => state::refused(s, Refusal::InvalidArgument),
+        Held::NoStop => state::refused(s, Refusal::Damaged),
         Held::Units(i, e) => {
             if b.used < e - i || s.live == 0 {
-                return refused(s, Refusal::Damaged);
+                return state::refused(s, Refusal::Damaged);
             }
             let size = numbers::byte_size_from_area_size(e - i, unit);
             let state = free(s, used, stop, j, i, e);

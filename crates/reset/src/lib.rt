@@ -112,8 +112,7 @@ pub fn hard_reset(s: State, used: &mut [u32], stop: &mut [u32]) -> Outcome
     ensures { λ r. ⌜ turn (r .answer) (r .state) (now (used .exit)) (now (stop .exit)) ≡ resetTurn s (now (used .entry)) (now (stop .entry)) true ⌝ }
 {
     if !shape::shape_ok(s, used.len(), stop.len()) {
-        let answer = Answer::Refused(Refusal::BadShape);
-        return Outcome { answer, state: s };
+        return state::refused(s, Refusal::BadShape);
     }
     clear_blocks(s, used);
     clear_blocks(s, stop);
@@ -127,8 +126,7 @@ pub fn soft_reset(s: State, used: &mut [u32], stop: &mut [u32]) -> Outcome
     ensures { λ r. ⌜ turn (r .answer) (r .state) (now (used .exit)) (now (stop .exit)) ≡ resetTurn s (now (used .entry)) (now (stop .entry)) false ⌝ }
 {
     if !shape::shape_ok(s, used.len(), stop.len()) {
-        let answer = Answer::Refused(Refusal::BadShape);
-        return Outcome { answer, state: s };
+        return state::refused(s, Refusal::BadShape);
     }
     clear_blocks(s, used);
     clear_blocks(s, stop);

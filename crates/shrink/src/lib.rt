@@ -56,7 +56,7 @@ fn keep(
     let unit = pool.granularity;
     let whole = numbers::byte_size_from_area_size(e - i, unit);
     if whole < size {
-        return release::refused(s, Refusal::InvalidState);
+        return state::refused(s, Refusal::InvalidState);
     }
     let n = numbers::area_size_from_byte_size(size, unit);
     let kept = numbers::byte_size_from_area_size(n, unit);
@@ -79,14 +79,14 @@ pub fn shrink(s: State, used: &mut [u32], stop: &mut [u32], address: u64, size: 
         return release::release(s, used, stop, address);
     }
     if !shape::shape_ok(s, used.len(), stop.len()) {
-        return release::refused(s, Refusal::BadShape);
+        return state::refused(s, Refusal::BadShape);
     }
     if address == 0 {
-        return release::refused(s, Refusal::InvalidArgument);
+        return state::refused(s, Refusal::InvalidArgument);
     }
     let found = table::lookup_block(s, address);
     let Found::At(j) = found else {
-        return release::refused(s, Refusal::InvalidArgument);
+        return state::refused(s, Refusal::InvalidArgument);
     };
     let b = s.blocks[j];
     let p = b.pool;
@@ -94,11 +94,11 @@ pub fn shrink(s: State, used: &mut [u32], stop: &mut [u32], address: u64, size: 
     let unit = pool.granularity;
     let held = spans::held_in(b, used, stop, s.w, unit, address);
     match held {
-        Held::NoSpan => release::refused(s, Refusal::InvalidArgument),
-        Held::NoStop => release::refused(s, Refusal::Damaged),
+        Held::NoSpan => state::refused(s, Refusal::InvalidArgument),
+        Held::NoStop => state::refused(s, Refusal::Damaged),
         Held::Units(i, e) => {
             if b.used < e - i {
-                return release::refused(s, Refusal::Damaged);
+                return state::refused(s, Refusal::Damaged);
             }
             keep(s, used, stop, address, size, j, i, e)
         }

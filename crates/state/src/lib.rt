@@ -3,6 +3,7 @@ use block::Block;
 use sizes::Pool;
 ghost use mathlib.Core.Path.{_≡_};
 ghost use Rattle.state.specs.Table.{zeroBlock, zeroState};
+ghost use Rattle.state.specs.Outcome.{refusal};
 
 // How many blocks the table holds, and so the most slots that are ever in force.
 pub const SLOT_LIMIT: usize = 64;
@@ -128,4 +129,14 @@ pub struct Searched {
 pub struct Outcome {
     pub answer: Answer,
     pub state: State,
+}
+
+// A refusal that changes nothing.
+pub fn refused(s: State, why: Refusal) -> Outcome
+    ensures { λ r. ⌜ r ≡ refusal s why ⌝ }
+{
+    Outcome {
+        answer: Answer::Refused(why),
+        state: s,
+    }
 }

@@ -1,15 +1,13 @@
 use Prim.Native.Nat.{ℕ, _^_, _<_}
 use mathlib.Core.Bool.{true, false}
-use mathlib.Core.Path.{_≡_, sym, ap, ap₂, _∙_}
+use mathlib.Core.Path.{_≡_, sym, ap, _∙_}
 use native.Mathlib.Omega.{arith}
 use borrow.Author.Tests.{not-true, not-false}
 use lib.ListN.{length}
 use Rattle.sizes.specs.declared.Rounded.{Rounded}
 use Rattle.sizes.specs.Sizes.{rounded}
 use Rattle.sizes.proofs.Sizes.{rounded-to-granularity}
-use Rattle.state.specs.declared.State.{State}
-use Rattle.state.specs.declared.Answer.{Answer}
-use Rattle.state.specs.declared.Answer.the-variants.{Refused}
+use Rattle.state.specs.declared.Outcome.{Outcome}
 use Rattle.state.specs.declared.Refusal.{Refusal}
 use Rattle.state.specs.Shape.{goodShape}
 use Rattle.shape.specs.Shaped.{Shaped}
@@ -45,7 +43,7 @@ unfolding allocTurn
 returns c =
     let a = c .before .before .before .before .before .args in
     let e : goodShape (a .s) (length (a .used .now)) (length (a .stop .now)) ≡ false = sym (c .before .before .shape-ok .ensures) ∙ not-true (c .before .before .shape-ok .result) (c .before .if1 .taken) in
-    ap₂ (λ (x : Answer) (r : State). turn x r (a .used .now) (a .stop .now)) (c .refused .ensures .0) (c .refused .ensures .1) ∙ rw e
+    ap (λ (o : Outcome). turn (o .answer) (o .state) (a .used .now) (a .stop .now)) (c .refused .ensures) ∙ rw e
 
 round-size-requires : tie.Need-round-size-requires
 round-size-requires c κs = omega (arith, shaped c .head .g-low)
@@ -81,7 +79,7 @@ returns-2 c = c .before .before .before .before .alloc-rounded .ensures ∙ size
 returns-3 : tie.Need-returns-3
 returns-3 c =
     let a = c .before .before .before .before .before .before .before .before .before .before .args in
-    ap₂ (λ (x : Answer) (r : State). turn x r (a .used .now) (a .stop .now)) (c .refused2 .ensures .0) (c .refused2 .ensures .1)
+    ap (λ (o : Outcome). turn (o .answer) (o .state) (a .used .now) (a .stop .now)) (c .refused2 .ensures)
     ∙ ap (λ (why : Refusal). refuse why (a .s) (a .used .now) (a .stop .now)) (c .before .size-refusal .ensures)
     ∙ sized (c .before .before .before .before .before) _ (c .before .before .before .rounded2 .given .1)
 

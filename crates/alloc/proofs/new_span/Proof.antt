@@ -11,8 +11,7 @@ use Rattle.numbers.specs.Units.{unitsOf}
 use Rattle.block.specs.declared.Block.{Block}
 use Rattle.block.specs.Marking.{fresh}
 use Rattle.state.specs.declared.State.{State}
-use Rattle.state.specs.declared.Answer.{Answer}
-use Rattle.state.specs.declared.Answer.the-variants.{Refused}
+use Rattle.state.specs.declared.Outcome.{Outcome}
 use Rattle.state.specs.declared.Refusal.the-variants.{NoMapping}
 use Rattle.state.specs.declared.Found.{Found}
 use Rattle.state.specs.declared.Found.the-variants.{At, Nothing}
@@ -31,10 +30,7 @@ use borrow.Author.Needs.{needs}
 use Rattle.alloc.proofs.new_span.Statement.{statement}
 use Rattle.alloc.proofs.new_span.Tie as tie
 
--- a refusal is the rule's: by what the lookups found
-refusal : (s : State) (u t : List ℕ) (p n bytes : ℕ) (a : Answer) (r : State) → (a ≡ Refused NoMapping) × (r ≡ s) → turn a r u t ≡ refuse NoMapping s u t
-refusal s u t p n bytes a r e = ap₂ (λ (x : Answer) (y : State). turn x y u t) (e .0) (e .1)
-
+-- the rule goes by what the lookups found
 by-place : (s : State) (u t : List ℕ) (p n bytes : ℕ) (pl : Place) (sl : Found) → pl ≡ lowestPlace s bytes → sl ≡ lowestSlot s
     → placeTurn s u t p n bytes pl sl ≡ newTurn s u t p n bytes
 by-place s u t p n bytes pl sl e f = ap₂ (λ (x : Place) (y : Found). placeTurn s u t p n bytes x y) e f
@@ -54,7 +50,7 @@ refused-requires c κs = search needs
 returns : tie.Need-returns
 returns c =
     let a = c .before .before .before .before .before .before .args in
-    refusal (a .t1) (a .used .now) (a .stop .now) (a .p) (a .n) (a .bytes) (c .refused .result .answer) (c .refused .result .state) (c .refused .ensures)
+    ap (λ (o : Outcome). turn (o .answer) (o .state) (a .used .now) (a .stop .now)) (c .refused .ensures)
     ∙ by-place (a .t1) (a .used .now) (a .stop .now) (a .p) (a .n) (a .bytes) Nowhere (lowestSlot (a .t1)) (sym (c .before .enum-told .given .1) ∙ c .before .before .before .lowest-place .ensures) refl
 
 lowest-free-slot-requires : tie.Need-lowest-free-slot-requires
@@ -72,7 +68,7 @@ refused-requires-2 c κs = search needs
 returns-2 : tie.Need-returns-2
 returns-2 c =
     let a = c .before .before .before .before .before .before .before .before .before .before .args in
-    refusal (a .t1) (a .used .now) (a .stop .now) (a .p) (a .n) (a .bytes) (c .refused2 .result .answer) (c .refused2 .result .state) (c .refused2 .ensures)
+    ap (λ (o : Outcome). turn (o .answer) (o .state) (a .used .now) (a .stop .now)) (c .refused2 .ensures)
     ∙ by-place (a .t1) (a .used .now) (a .stop .now) (a .p) (a .n) (a .bytes) (Address (c .before .before .before .before .before .place .given .0 .0)) Nothing (sym (c .before .before .before .before .before .place .given .1) ∙ c .before .before .before .before .before .before .before .lowest-place .ensures)
     (sym (c .before .enum-told2 .given .1) ∙ c .before .before .before .lowest-free-slot .ensures)
 
@@ -109,7 +105,7 @@ returns-3 c =
     let k = c .before .before .before .before .before .before .slot .given .0 .0 in
     let words = c .before .before .area-size-from-byte-size2 .ensures ∙ ap (λ (x : ℕ). unitsOf x 32) (c .before .before .before .area-size-from-byte-size .ensures) in
     let e : leb (unitsOf (unitsOf (a .bytes) unit) 32) (a .t1 .w) ≡ false = lt-leb (unitsOf (unitsOf (a .bytes) unit) 32) (a .t1 .w) (omega (arith, words, c .before .if1 .taken)) in
-    refusal (a .t1) (a .used .now) (a .stop .now) (a .p) (a .n) (a .bytes) (c .refused3 .result .answer) (c .refused3 .result .state) (c .refused3 .ensures)
+    ap (λ (o : Outcome). turn (o .answer) (o .state) (a .used .now) (a .stop .now)) (c .refused3 .ensures)
     ∙ sym (ap (λ (b : Bool). pick b (makeTurn (a .t1) (a .used .now) (a .stop .now) (a .p) (a .n) (a .bytes) at k) (refuse NoMapping (a .t1) (a .used .now) (a .stop .now))) e)
     ∙ by-place (a .t1) (a .used .now) (a .stop .now) (a .p) (a .n) (a .bytes) (Address at) (At k) (sym (c .before .before .before .before .before .before .before .before .before .before .place .given .1) ∙ c .before .before .before .before .before .before .before .before .before .before .before .before .lowest-place .ensures) (sym (c .before .before .before .before .before .before .slot .given .1) ∙ c .before .before .before .before .before .before .before .before .lowest-free-slot .ensures)
 

@@ -4,6 +4,8 @@ use mathlib.Core.Path.{_≡_, sym, ap, _∙_}
 use native.Mathlib.Omega.{arith}
 use borrow.Author.Tests.{not-true, not-false}
 use lib.ListN.{length}
+use Rattle.state.specs.declared.Outcome.{Outcome}
+use Rattle.rules.specs.Turn.{turn}
 use Rattle.rules.specs.Create.{grantable}
 use Rattle.create.specs.Asked.{asked}
 use Rattle.create.proofs.Cleared.{slots-room, slots-few}
@@ -30,8 +32,14 @@ is-grantable-requires c κs = search needs
 zero-state-requires : tie.Need-zero-state-requires
 zero-state-requires c κs = search needs
 
+refused-requires : tie.Need-refused-requires
+refused-requires c κs = search needs
+
 returns : tie.Need-returns
-returns c = let a = c .before .before .before .before .before .args in refused-is (asked (a .size) (a .g) (a .flags) (a .w) (a .arena) (a .length)) (a .used .now) (a .stop .now) (c .zero-state .result) (sym (c .before .before .is-grantable .ensures) ∙ not-true (c .before .before .is-grantable .result) (c .before .if1 .taken)) (c .zero-state .ensures)
+returns c =
+    let a = c .before .before .before .before .before .before .args in
+    ap (λ (o : Outcome). turn (o .answer) (o .state) (a .used .now) (a .stop .now)) (c .refused .ensures)
+    ∙ refused-is (asked (a .size) (a .g) (a .flags) (a .w) (a .arena) (a .length)) (a .used .now) (a .stop .now) (c .before .zero-state .result) (sym (c .before .before .before .is-grantable .ensures) ∙ not-true (c .before .before .before .is-grantable .result) (c .before .before .if1 .taken)) (c .before .zero-state .ensures)
 
 slots-of-requires : tie.Need-slots-of-requires
 slots-of-requires c κs = let a = c .before .before .before .before .args in words-low (asked (a .size) (a .g) (a .flags) (a .w) (a .arena) (a .length)) (length (a .used .now)) (length (a .stop .now)) (good c)
@@ -66,6 +74,7 @@ create-spec =
     (tie.spec
     is-grantable-requires
     zero-state-requires
+    refused-requires
     returns
     slots-of-requires
     mul-n

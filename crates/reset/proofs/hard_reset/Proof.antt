@@ -1,10 +1,12 @@
 use mathlib.Core.Bool.{true}
-use mathlib.Core.Path.{_≡_, sym, _∙_}
+use mathlib.Core.Path.{_≡_, sym, ap, _∙_}
 use borrow.Author.Tests.{not-true, not-false}
 use lib.ListN.{length}
+use Rattle.state.specs.declared.Outcome.{Outcome}
 use Rattle.state.specs.Shape.{goodShape}
 use Rattle.shape.specs.Shaped.{Shaped}
 use Rattle.shape.proofs.Shaped.{shaped-is}
+use Rattle.rules.specs.Turn.{turn}
 use Rattle.reset.proofs.Turns.{clearable-used, clearable-stop, bad-is, done-is}
 use borrow.Author.Needs.{needs}
 use Rattle.reset.proofs.hard_reset.Statement.{statement}
@@ -20,8 +22,14 @@ shaped c = let a = c .before .before .before .before .args in shaped-is (a .s) (
 shape-ok-requires : tie.Need-shape-ok-requires
 shape-ok-requires c κs = search needs
 
+refused-requires : tie.Need-refused-requires
+refused-requires c κs = search needs
+
 returns : tie.Need-returns
-returns c = let a = c .before .before .before .before .args in bad-is (a .s) (a .used .now) (a .stop .now) true (sym (c .before .shape-ok .ensures) ∙ not-true (c .before .shape-ok .result) (c .if1 .taken))
+returns c =
+    let a = c .before .before .before .before .before .args in
+    ap (λ (o : Outcome). turn (o .answer) (o .state) (a .used .now) (a .stop .now)) (c .refused .ensures)
+    ∙ bad-is (a .s) (a .used .now) (a .stop .now) true (sym (c .before .before .shape-ok .ensures) ∙ not-true (c .before .before .shape-ok .result) (c .before .if1 .taken))
 
 clear-blocks-requires : tie.Need-clear-blocks-requires
 clear-blocks-requires c κs = let a = c .before .before .before .before .before .args in clearable-used (a .s) (length (a .used .now)) (length (a .stop .now)) (shaped (c .before))
@@ -49,6 +57,7 @@ hard-reset-spec =
     tie.close
     (tie.spec
     shape-ok-requires
+    refused-requires
     returns
     clear-blocks-requires
     clear-blocks-requires-2
