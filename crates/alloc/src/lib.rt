@@ -132,7 +132,7 @@ fn alloc_rounded(s: State, used: &mut [u32], stop: &mut [u32], bytes: u64) -> Ou
 pub fn alloc(s: State, used: &mut [u32], stop: &mut [u32], size: u64) -> Outcome
     ensures { λ r. ⌜ turn (r .answer) (r .state) (now (used .exit)) (now (stop .exit)) ≡ allocTurn s (now (used .entry)) (now (stop .entry)) size ⌝ }
 {
-    if !shape::shape_ok(s, used.len(), stop.len()) {
+    if !whole::shape_ok(s, used.len(), stop.len()) {
         return state::refused(s, Refusal::BadShape);
     }
     let rounded = sizes::round_size(size, s.g);

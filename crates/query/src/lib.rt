@@ -13,7 +13,7 @@ ghost use Rattle.rules.specs.Span.{queryTurn};
 pub fn query(s: State, used: &[u32], stop: &[u32], address: u64) -> Answer
     ensures { λ r. ⌜ r ≡ queryTurn s (now (used .entry)) (now (stop .entry)) address .answer ⌝ }
 {
-    if !shape::shape_ok(s, used.len(), stop.len()) {
+    if !whole::shape_ok(s, used.len(), stop.len()) {
         return Answer::Refused(Refusal::BadShape);
     }
     let found = table::lookup_block(s, address);

@@ -78,7 +78,7 @@ fn free(s: State, used: &mut [u32], stop: &mut [u32], j: usize, i: u32, e: u32) 
 pub fn release(s: State, used: &mut [u32], stop: &mut [u32], address: u64) -> Outcome
     ensures { λ r. ⌜ turn (r .answer) (r .state) (now (used .exit)) (now (stop .exit)) ≡ releaseTurn s (now (used .entry)) (now (stop .entry)) address ⌝ }
 {
-    if !shape::shape_ok(s, used.len(), stop.len()) {
+    if !whole::shape_ok(s, used.len(), stop.len()) {
         return state::refused(s, Refusal::BadShape);
     }
     if address == 0 {

@@ -111,7 +111,7 @@ fn soften(s: State) -> State
 pub fn hard_reset(s: State, used: &mut [u32], stop: &mut [u32]) -> Outcome
     ensures { λ r. ⌜ turn (r .answer) (r .state) (now (used .exit)) (now (stop .exit)) ≡ resetTurn s (now (used .entry)) (now (stop .entry)) true ⌝ }
 {
-    if !shape::shape_ok(s, used.len(), stop.len()) {
+    if !whole::shape_ok(s, used.len(), stop.len()) {
         return state::refused(s, Refusal::BadShape);
     }
     clear_blocks(s, used);
@@ -125,7 +125,7 @@ pub fn hard_reset(s: State, used: &mut [u32], stop: &mut [u32]) -> Outcome
 pub fn soft_reset(s: State, used: &mut [u32], stop: &mut [u32]) -> Outcome
     ensures { λ r. ⌜ turn (r .answer) (r .state) (now (used .exit)) (now (stop .exit)) ≡ resetTurn s (now (used .entry)) (now (stop .entry)) false ⌝ }
 {
-    if !shape::shape_ok(s, used.len(), stop.len()) {
+    if !whole::shape_ok(s, used.len(), stop.len()) {
         return state::refused(s, Refusal::BadShape);
     }
     clear_blocks(s, used);

@@ -11,7 +11,7 @@ const MOST_UNITS: u32 = 4294967295;
 // ---- what is written
 
 fn verdict(s: State, used: usize, stop: usize) {
-    if shape::shape_ok(s, used, stop) {
+    if whole::shape_ok(s, used, stop) {
         io::write_all(1, b" ok\n");
     } else {
         io::write_all(1, b" bad\n");

@@ -78,7 +78,7 @@ pub fn shrink(s: State, used: &mut [u32], stop: &mut [u32], address: u64, size: 
     if size == 0 {
         return release::release(s, used, stop, address);
     }
-    if !shape::shape_ok(s, used.len(), stop.len()) {
+    if !whole::shape_ok(s, used.len(), stop.len()) {
         return state::refused(s, Refusal::BadShape);
     }
     if address == 0 {

@@ -1,4 +1,4 @@
--- `shape::table_ok` meets its contract. The invariant is `Walked`, whose laws do the work. Assumes nothing.
+-- `whole::table_ok` meets its contract. The invariant is `Walked`, whose laws do the work. Assumes nothing.
 use Prim.Native.Nat.{ℕ, _+_, _-_}
 use mathlib.Core.Path.{_≡_, sym, _∙_, subst}
 use mathlib.Core.Bool.{true, false}
@@ -9,11 +9,11 @@ use lib.ListN.{getD, set, replicate}
 use Rattle.sizes.specs.declared.Pool.{Pool}
 use Rattle.sizes.specs.Pools.{freshPool}
 use Rattle.state.specs.Table.{blockAt, poolAt}
 use Rattle.shape.specs.Parts.{blockOkIn, poolLike}
 use Rattle.shape.proofs.Bools.{at-three}
 use Rattle.shape.proofs.Walk.{Walked, walk-start, walk-step, walk-done, total-low, slot-low, pool-low, room, slot-fails, block-fails, pool-fails}
-use Rattle.shape.proofs.table_ok.Statement.{statement}
-use Rattle.shape.proofs.table_ok.Tie as tie
+use Rattle.whole.proofs.table_ok.Statement.{statement}
+use Rattle.whole.proofs.table_ok.Tie as tie
 
 abbrev Inv-loop : tie.InvT-loop
 Inv-loop s seen₀ pools₀ used₀ i₀ seen pools used i = Walked s i seen pools used

@@ -1,4 +1,4 @@
--- `shape::layout_ok` meets its contract. The invariants: neighbours in order so far (`Ordered`), and zeros so far. Assumes nothing.
+-- `whole::layout_ok` meets its contract. The invariants: neighbours in order so far (`Ordered`), and zeros so far. Assumes nothing.
 use borrow.Author.Needs.{needs}
 use Prim.Native.Nat.{ℕ, _-_, _≤_, _<_}
 use mathlib.Core.Path.{_≡_, sym, _∙_, subst}
@@ -8,10 +8,10 @@ use borrow.Author.Tests.{not-true, not-false}
 use Rattle.state.specs.Table.{ageAt}
 use Rattle.state.specs.Shape.{zeroOk}
 use Rattle.state.proofs.Tests.{all-of}
 use Rattle.shape.proofs.Address.{Ordered, order-start, order-step, age-fails, gap-fails, layout-done}
 use Rattle.shape.proofs.Zeros.{zero-below, zero-here, zero-more, block-not-zero, age-not-zero}
-use Rattle.shape.proofs.layout_ok.Statement.{statement}
-use Rattle.shape.proofs.layout_ok.Tie as tie
+use Rattle.whole.proofs.layout_ok.Statement.{statement}
+use Rattle.whole.proofs.layout_ok.Tie as tie
 
 abbrev Inv-loop : tie.InvT-loop
 Inv-loop s end₀ k₀ end k = Ordered s k end

@@ -1,13 +1,13 @@
--- `shape::shape_ok` meets its contract: its parts are the printed clauses. Assumes nothing.
+-- `whole::shape_ok` meets its contract: its parts are the printed clauses. Assumes nothing.
 use mathlib.Core.Path.{sym, _∙_}
 use borrow.Author.Tests.{not-true, not-false}
 use Rattle.shape.proofs.Head.{headed}
 use Rattle.shape.proofs.Sound.{laid}
 use Rattle.shape.proofs.Shaped.{table-sound}
 use Rattle.shape.proofs.Whole.{head-fails, table-fails, last-part}
 use borrow.Author.Needs.{needs}
-use Rattle.shape.proofs.shape_ok.Statement.{statement}
-use Rattle.shape.proofs.shape_ok.Tie as tie
+use Rattle.whole.proofs.shape_ok.Statement.{statement}
+use Rattle.whole.proofs.shape_ok.Tie as tie
 
 head-ok-requires : tie.Need-head-ok-requires
 head-ok-requires c κs = search needs
