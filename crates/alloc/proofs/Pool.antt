@@ -34,7 +34,9 @@ use Rattle.rules.specs.Turn.{unitOf}
 use Rattle.facts.proofs.Facts.{count-64, unit-g, placed}
 use Rattle.facts.proofs.Room.{pool-small, live-small}
 use Rattle.facts.proofs.Search.{Fits}
-use Rattle.alloc.specs.Ready.{Markable, Makes, Allocates}
+use Rattle.grant.specs.Ready.{Markable}
+use Rattle.make.specs.Ready.{Makes}
+use Rattle.alloc.specs.Ready.{Allocates}
 
 pub g-good : (g : ℕ) → (g ≡ 64) ⊎ ((g ≡ 128) ⊎ (g ≡ 256)) → isGranularity g ≡ true
 unfolding isGranularity

@@ -8,8 +8,8 @@ use Rattle.block.specs.Marking.{Painted, markAllocated}
 use Rattle.state.specs.Table.{blockAt}
 use Rattle.rules.specs.Turn.{unitOf}
 use borrow.Author.Needs.{needs}
-use Rattle.alloc.proofs.mark_span.Statement.{statement}
-use Rattle.alloc.proofs.mark_span.Tie as tie
+use Rattle.grant.proofs.mark_span.Statement.{statement}
+use Rattle.grant.proofs.mark_span.Tie as tie
 
 -- a unit of the block is no further than its end
 offset-le : (i area unit : ℕ) → i ≤ area → i * unit ≤ area * unit

@@ -6,11 +6,11 @@ use Rattle.state.specs.declared.State.{State}
 use Rattle.state.specs.Change.{inserted}
 use Rattle.rules.specs.Turn.{Turn, clearSlot}
 use Rattle.rules.specs.Alloc.{markTurn}
-use Rattle.alloc.specs.Ready.{Markable}
-use Rattle.alloc.proofs.Made.{length-cleared, made}
+use Rattle.grant.specs.Ready.{Markable}
+use Rattle.make.proofs.Made.{length-cleared, made}
 use borrow.Author.Needs.{needs}
-use Rattle.alloc.proofs.make_span.Statement.{statement}
-use Rattle.alloc.proofs.make_span.Tie as tie
+use Rattle.make.proofs.make_span.Statement.{statement}
+use Rattle.make.proofs.make_span.Tie as tie
 
 clear-slot-requires : tie.Need-clear-slot-requires
 clear-slot-requires c κs = search needs

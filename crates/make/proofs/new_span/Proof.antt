@@ -24,11 +24,11 @@ use Rattle.state.proofs.Lengths.{blocks-64, order-64, pool-3}
 use Rattle.rules.specs.Turn.{Turn, turn, refuse, clearSlot}
 use Rattle.rules.specs.Alloc.{markTurn, makeTurn, placeTurn, newTurn}
 use Rattle.facts.proofs.Facts.{arranged, slotted}
-use Rattle.alloc.specs.Ready.{Makeable}
-use Rattle.alloc.proofs.New.{unit-low, bytes-range, span-fits, makeable}
+use Rattle.make.specs.Ready.{Makeable}
+use Rattle.make.proofs.New.{unit-low, bytes-range, span-fits, makeable}
 use borrow.Author.Needs.{needs}
-use Rattle.alloc.proofs.new_span.Statement.{statement}
-use Rattle.alloc.proofs.new_span.Tie as tie
+use Rattle.make.proofs.new_span.Statement.{statement}
+use Rattle.make.proofs.new_span.Tie as tie
 
 -- the rule goes by what the lookups found
 by-place : (s : State) (u t : List ℕ) (p n bytes : ℕ) (pl : Place) (sl : Found) → pl ≡ lowestPlace s bytes → sl ≡ lowestSlot s

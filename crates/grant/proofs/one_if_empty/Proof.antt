@@ -1,6 +1,6 @@
 use borrow.Author.Tests.{eq-eqb, ne-eqb}
-use Rattle.alloc.proofs.one_if_empty.Statement.{statement}
-use Rattle.alloc.proofs.one_if_empty.Tie as tie
+use Rattle.grant.proofs.one_if_empty.Statement.{statement}
+use Rattle.grant.proofs.one_if_empty.Tie as tie
 
 returns : tie.Need-returns
 returns c = rw (ne-eqb _ _ (c .if1 .taken))

@@ -18,7 +18,7 @@ use Rattle.state.specs.Find.{lowestSlot, lowestPlace}
 use Rattle.shape.specs.Shaped.{Shaped}
 use Rattle.facts.proofs.Facts.{unit-g, slot-room}
 use Rattle.facts.proofs.Room.{slot-is, place-in, room-left, pool-small, live-small, enters}
-use Rattle.alloc.specs.Ready.{Makeable, Makes}
+use Rattle.make.specs.Ready.{Makeable, Makes}
 
 module _ (s : State) (u t p n bytes : ℕ) (m : Makes s u t p n bytes) where
   abbrev f : Shaped s u t
