@@ -29,7 +29,7 @@ use Rattle.facts.proofs.Facts.{count-64, pool-3, placed}
 use Rattle.change.specs.Ready.{Leaves}
 use Rattle.rules.specs.Turn.{withLive, withCounts}
 use Rattle.rules.specs.Release.{lessUsed}
-use Rattle.release.specs.Settles.{Settles}
+use Rattle.settle.specs.Settles.{Settles}
 
 -- ---- a record whose ten numbers are 0 is the zero record
 abbrev make : ℕ → ℕ → ℕ → ℕ → ℕ → ℕ → ℕ → ℕ → ℕ → ℕ → Block

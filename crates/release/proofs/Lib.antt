@@ -1,2 +1,2 @@
 pub mod Leaves
-pub mod Settled
+pub mod Cases

@@ -1,5 +1,4 @@
 // The call release.
-use block::Block;
 use state::Answer;
 use state::Found;
 use state::Held;
@@ -13,50 +12,10 @@ ghost use lib.ListN.{length};
 ghost use Rattle.block.specs.Record.{SpanIn};
 ghost use Rattle.block.specs.Marking.{markReleased};
 ghost use Rattle.state.specs.declared.Answer.{Answer};
-ghost use Rattle.state.specs.Table.{blockAt, poolAt};
+ghost use Rattle.state.specs.Table.{blockAt};
 ghost use Rattle.shape.specs.Shaped.{Shaped};
 ghost use Rattle.rules.specs.Turn.{turn, withLive};
 ghost use Rattle.rules.specs.Release.{lessUsed, settle, releaseTurn};
-ghost use Rattle.release.specs.Settles.{Settles};
-
-// `n` units of block `j`, whose record becomes `b`, are no longer used.
-pub fn less_used(s: State, j: usize, b: Block, n: u32) -> State
-    requires { ⌜ (j < 64) × (blockAt s j .pool < 3) × (n ≤ poolAt s (blockAt s j .pool) .used) ⌝ }
-    ensures { λ r. ⌜ r ≡ lessUsed s j b n ⌝ }
-{
-    let old = s.blocks[j];
-    let p = old.pool;
-    let mut pool = s.pool[p];
-    pool.used = pool.used - n;
-    let mut r = s;
-    r.blocks[j] = b;
-    r.pool[p] = pool;
-    r
-}
-
-// A block without used units goes if its pool keeps an empty block already or nothing empty is kept; otherwise its pool keeps it.
-// A turn of the rule has the answer in it, which the caller gives: so the contract speaks of every answer.
-fn settle(s: State, used: &mut [u32], stop: &mut [u32], j: usize) -> State
-    requires { ⌜ Settles s j (length (now used)) (length (now stop)) ⌝ }
-    ensures { λ r. ⌜ ((a : Answer) → turn a r (now (used .exit)) (now (stop .exit)) ≡ settle a s (now (used .entry)) (now (stop .entry)) j) ⌝ }
-{
-    let b = s.blocks[j];
-    if b.used != 0 {
-        return s;
-    }
-    let p = b.pool;
-    let mut pool = s.pool[p];
-    if pool.empty != 0 || s.immediate {
-        let slot = b.slot;
-        slots::clear_slot(used, slot, s.w);
-        slots::clear_slot(stop, slot, s.w);
-        return change::remove_block(s, j);
-    }
-    pool.empty = 1;
-    let mut r = s;
-    r.pool[p] = pool;
-    r
-}
 
 // The span of block `j` from unit `i` up to `e` goes.
 fn free(s: State, used: &mut [u32], stop: &mut [u32], j: usize, i: u32, e: u32) -> State
@@ -69,9 +28,9 @@ fn free(s: State, used: &mut [u32], stop: &mut [u32], j: usize, i: u32, e: u32) 
 {
     let b = s.blocks[j];
     let less = block::mark_released_area(b, used, stop, s.w, i, e);
-    let mut r = less_used(s, j, less, e - i);
+    let mut r = settle::less_used(s, j, less, e - i);
     r.live = s.live - 1;
-    settle(r, used, stop, j)
+    settle::settle(r, used, stop, j)
 }
 
 // The span that starts at an address goes.

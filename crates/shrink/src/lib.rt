@@ -30,7 +30,7 @@ fn cut_off(s: State, used: &mut [u32], stop: &mut [u32], j: usize, from: u32, to
 {
     let b = s.blocks[j];
     let less = block::mark_shrunk_area(b, used, stop, s.w, from, to);
-    release::less_used(s, j, less, to - from)
+    settle::less_used(s, j, less, to - from)
 }
 
 // The span of block `j` from unit `i` up to `e` keeps what `size` bytes take. A size may be too large to be turned into units, so the

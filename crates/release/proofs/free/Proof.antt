@@ -11,7 +11,7 @@ use Rattle.state.proofs.Lengths as lengths
 use Rattle.facts.proofs.Facts.{pool-3, placed}
 use Rattle.rules.specs.Turn.{withLive}
 use Rattle.rules.specs.Release.{lessUsed, settle}
-use Rattle.release.specs.Settles.{Settles}
+use Rattle.settle.specs.Settles.{Settles}
 use Rattle.release.proofs.Leaves.{Stays, released-stays, less-ready, settles-after}
 use borrow.Author.Needs.{needs}
 use Rattle.release.proofs.free.Statement.{statement}

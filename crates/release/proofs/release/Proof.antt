@@ -22,7 +22,7 @@ use Rattle.shape.proofs.Bools.{or-left, or-right}
 use Rattle.rules.specs.Turn.{turn, unitOf, span}
 use Rattle.rules.specs.Release.{releasedTurn, givenBackTurn, releaseTurn}
 use Rattle.facts.proofs.Facts.{count-64, ordered, placed, pool-3, within, found-in, held-in-range, bytes-fit}
-use Rattle.release.proofs.Settled.{released-damaged, released-free}
+use Rattle.release.proofs.Cases.{released-damaged, released-free}
 use borrow.Author.Needs.{needs}
 use Rattle.release.proofs.release.Statement.{statement}
 use Rattle.release.proofs.release.Tie as tie

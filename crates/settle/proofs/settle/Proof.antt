@@ -5,10 +5,10 @@ use lib.Dec.{eqb}
 use borrow.Author.Tests.{eq-eqb, ne-eqb}
 use Rattle.state.specs.Table.{blockAt, poolAt}
 use Rattle.shape.proofs.Bools.{or-left, or-right, not-of-false}
-use Rattle.release.proofs.Settled.{settle-used, settle-gone, settle-kept}
+use Rattle.settle.proofs.Settled.{settle-used, settle-gone, settle-kept}
 use borrow.Author.Needs.{needs}
-use Rattle.release.proofs.settle.Statement.{statement}
-use Rattle.release.proofs.settle.Tie as tie
+use Rattle.settle.proofs.settle.Statement.{statement}
+use Rattle.settle.proofs.settle.Tie as tie
 
 mul-b : tie.Need-mul-b
 mul-b c = search needs

@@ -1,19 +1,16 @@
--- The rule of release, by the cases that the code tells apart. Assumes nothing.
-use Prim.Native.Nat.{ℕ, _-_}
+-- The rule by which a block settles, by the cases that the code tells apart. Assumes nothing.
+use Prim.Native.Nat.{ℕ}
 use mathlib.Core.Bool.{true, false, not, _||_}
 use mathlib.Core.List.{List}
 use mathlib.Core.Path.{_≡_}
-use lib.Dec.{ltb, eqb}
+use lib.Dec.{eqb}
 use Rattle.state.specs.declared.State.{State}
-use Rattle.state.specs.declared.Held.the-variants.{Units}
-use Rattle.state.specs.declared.Refusal.the-variants.{Damaged}
 use Rattle.state.specs.declared.Answer.{Answer}
 use Rattle.state.specs.Table.{blockAt, poolAt}
 use Rattle.state.specs.Change.{removed}
-use Rattle.rules.specs.Turn.{turn, refuse, putPool, withCounts, clearSlot}
-use Rattle.rules.specs.Release.{settle, freeTurn, releasedTurn}
+use Rattle.rules.specs.Turn.{turn, putPool, withCounts, clearSlot}
+use Rattle.rules.specs.Release.{settle}
 
--- ---- a block settles
 module _ (a : Answer) (s : State) (u t : List ℕ) (j : ℕ) where
   pub settle-used : eqb (blockAt s j .used) 0 ≡ false → turn a s u t ≡ settle a s u t j
   settle-used e = rw e
@@ -25,11 +22,3 @@ module _ (a : Answer) (s : State) (u t : List ℕ) (j : ℕ) where
   pub settle-kept : eqb (blockAt s j .used) 0 ≡ true → not (eqb (poolAt s (blockAt s j .pool) .empty) 0) || s .immediate ≡ false
       → turn a (putPool s (blockAt s j .pool) (withCounts (poolAt s (blockAt s j .pool)) 1 (poolAt s (blockAt s j .pool) .used))) u t ≡ settle a s u t j
   settle-kept e g = rw (e, g)
-
--- ---- a span that stands there
-module _ (s : State) (u t : List ℕ) (a j i e : ℕ) where
-  pub released-damaged : ltb (blockAt s j .used) (e - i) || eqb (s .live) 0 ≡ true → refuse Damaged s u t ≡ releasedTurn s u t a j (Units i e)
-  released-damaged z = rw z
-
-  pub released-free : ltb (blockAt s j .used) (e - i) || eqb (s .live) 0 ≡ false → freeTurn s u t a j i e ≡ releasedTurn s u t a j (Units i e)
-  released-free z = rw z

@@ -1,0 +1,19 @@
+-- The rule of release, by the cases that the code tells apart. Assumes nothing.
+use Prim.Native.Nat.{ℕ, _-_}
+use mathlib.Core.Bool.{true, false, _||_}
+use mathlib.Core.List.{List}
+use mathlib.Core.Path.{_≡_}
+use lib.Dec.{ltb, eqb}
+use Rattle.state.specs.declared.State.{State}
+use Rattle.state.specs.declared.Held.the-variants.{Units}
+use Rattle.state.specs.declared.Refusal.the-variants.{Damaged}
+use Rattle.state.specs.Table.{blockAt}
+use Rattle.rules.specs.Turn.{refuse}
+use Rattle.rules.specs.Release.{freeTurn, releasedTurn}
+
+module _ (s : State) (u t : List ℕ) (a j i e : ℕ) where
+  pub released-damaged : ltb (blockAt s j .used) (e - i) || eqb (s .live) 0 ≡ true → refuse Damaged s u t ≡ releasedTurn s u t a j (Units i e)
+  released-damaged z = rw z
+
+  pub released-free : ltb (blockAt s j .used) (e - i) || eqb (s .live) 0 ≡ false → freeTurn s u t a j i e ≡ releasedTurn s u t a j (Units i e)
+  released-free z = rw z
