@@ -1,12 +1,10 @@
-// The runs of free units of a used map within a window, and the search for a place: the Rust's `BitVectorRangeIterator`, and what `alloc`
-// does with it in one block. A window is the units from `start` up to `end`, and empty where `end` is not above `start`. Runs are clipped at
-// both ends.
+// The runs of free units of a used map within a window: the Rust's `BitVectorRangeIterator`. A window is the units from `start` up to `end`, and
+// empty where `end` is not above `start`. Runs are clipped at both ends.
 ghost use mathlib.Core.Path.{_≡_};
-ghost use Prim.Native.Nat.{ℕ, _+_, _*_, _-_, _^_, _<_, _≤_, min, max};
+ghost use Prim.Native.Nat.{ℕ, _+_, _*_, _-_, _^_, _<_, _≤_, min};
 ghost use lib.ListN.{length};
 ghost use Rattle.bits.specs.Walk.{Seen};
 ghost use Rattle.runs.specs.Walk.{Stands, ClearIn, Ends, Answer};
-ghost use Rattle.runs.specs.Window.{Sought};
 
 // Where a walk stands: a word by its index, those of its free units that are still to be looked at as ones, and the window's end.
 pub struct Walk {
@@ -25,12 +23,6 @@ fn lesser(a: usize, b: usize) -> usize
     ensures { λ r. ⌜ r ≡ min a b ⌝ }
 {
     if a < b { a } else { b }
-}
-
-fn greater(a: usize, b: usize) -> usize
-    ensures { λ r. ⌜ r ≡ max a b ⌝ }
-{
-    if a < b { b } else { a }
 }
 
 // A walk at the window's start. An empty window's walk may stand behind the last word, and no word is read.
@@ -187,49 +179,4 @@ pub enum Search {
     At(usize),
     Tight(usize, usize, usize),
     Full,
-}
-
-// The start of the first run: of this one if there was none before.
-fn earlier(longest: usize, first: usize, start: usize) -> usize
-    ensures { λ r. ⌜ ((longest ≡ 0 → r ≡ start) × (0 < longest → r ≡ first)) ⌝ }
-{
-    if longest == 0 { start } else { first }
-}
-
-fn closed(first: usize, last: usize, longest: usize) -> Search
-    ensures { λ r. ⌜ ((longest ≡ 0 → r ≡ Search.Full) × (0 < longest → r ≡ Search.Tight first last longest)) ⌝ }
-{
-    if longest == 0 {
-        Search::Full
-    } else {
-        Search::Tight(first, last, longest)
-    }
-}
-
-// The lowest place of `n` free units in the window, or what the window tightens to.
-pub fn search_window(words: &[u32], start: usize, end: usize, n: usize) -> Search
-    requires { ⌜ (start ≤ 32 * length (now words)) × (end ≤ 32 * length (now words)) × (length (now words) < 2 ^ 32) × (0 < n) ⌝ }
-    ensures { λ r. ⌜ Sought (now (words .entry)) start end n r ⌝ }
-{
-    let w = start_walk(words, start, end);
-    let mut at = w.at;
-    let mut word = w.word;
-    let mut from = start;
-    let mut first = start;
-    let mut longest: usize = 0;
-    while from < end {
-        let got = step(words, at, word, end, n);
-        let Next::Run(s, e, next) = got else {
-            return closed(first, from, longest);
-        };
-        if n <= e - s {
-            return Search::At(s);
-        }
-        first = earlier(longest, first, s);
-        longest = greater(longest, e - s);
-        at = next.at;
-        word = next.word;
-        from = e;
-    }
-    closed(first, from, longest)
 }

@@ -82,7 +82,7 @@ fn search(p: usize, start: usize, end: usize, n: usize) {
                 window(p, start, end);
                 number(n as u64);
                 let words = pattern(p);
-                found(runs::search_window(&words, start, end, n));
+                found(window::search_window(&words, start, end, n));
             }
         }
     }

@@ -21,7 +21,7 @@ fn look_at(b: Block, used: &[u32], w: usize, pool: usize, n: u32) -> Looked
     ensures { λ r. ⌜ r ≡ pick (eqb (b .pool) pool) (lookInto w b (now (used .entry)) n) (Missed b) ⌝ }
 {
     if b.pool == pool {
-        block::look_into(b, used, w, n)
+        look::look_into(b, used, w, n)
     } else {
         Looked::Missed(b)
     }

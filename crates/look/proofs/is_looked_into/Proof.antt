@@ -3,10 +3,10 @@ use borrow.Author.Tests.{lt-leb, le-leb, ne-eqb, not-true, not-false}
 use mathlib.Core.Path.{_≡_, refl, sym}
 use Prim.Native.Nat.{_-_}
 use borrow.Author.Tests.{lt-leb, le-leb, ne-eqb}
 use Rattle.block.specs.Search.{looks}
 use borrow.Author.Needs.{needs}
-use Rattle.block.proofs.is_looked_into.Statement.{statement}
-use Rattle.block.proofs.is_looked_into.Tie as tie
+use Rattle.look.proofs.is_looked_into.Statement.{statement}
+use Rattle.look.proofs.is_looked_into.Tie as tie
 
 sub-if1 : tie.Need-sub-if1
 sub-if1 c = search needs

@@ -1,9 +1,9 @@
 use mathlib.Core.Path.{refl}
 use native.Mathlib.Omega.{arith}
-use Rattle.runs.proofs.closed.Statement.{statement}
-use Rattle.runs.proofs.closed.Tie as tie
-use Rattle.runs.proofs.closed.Reads as reads
-use Rattle.runs.proofs.closed.Lts as lts
+use Rattle.window.proofs.closed.Statement.{statement}
+use Rattle.window.proofs.closed.Tie as tie
+use Rattle.window.proofs.closed.Reads as reads
+use Rattle.window.proofs.closed.Lts as lts
 
 returns : tie.Need-returns
 returns c = (λ e. refl, λ q. absurd (omega (arith, c .if1 .taken)))

@@ -7,11 +7,11 @@ use borrow.Author.Needs.{needs}
 use lib.ListN.{length}
 use Rattle.bits.specs.Bits.{bit}
 use Rattle.bits.specs.Walk.{Seen}
 use Rattle.runs.specs.Walk.{Stepped, RunFrom}
 use Rattle.runs.specs.declared.Search.{Search}
 use Rattle.runs.proofs.Laws.{Known, known-start, known-run, known-end, known-full, known-fit, known-sought, fit-here}
-use Rattle.runs.proofs.search_window.Statement.{statement}
-use Rattle.runs.proofs.search_window.Tie as tie
+use Rattle.window.proofs.search_window.Statement.{statement}
+use Rattle.window.proofs.search_window.Tie as tie
 
 abbrev Inv-loop : tie.InvT-loop
 Inv-loop words start end n at₀ word₀ from₀ first₀ longest₀ at word from first longest = Known words start end n from first longest × Seen words end from 0 at word

@@ -9,11 +9,11 @@ use Rattle.runs.specs.Seek.{seek}
 use Rattle.runs.proofs.Seek.{seek-only}
 use Rattle.slots.specs.Slots.{slotOf}
 use Rattle.slots.proofs.Laws.{length-slot}
 use Rattle.block.specs.declared.Looked.the-variants.{Missed}
 use Rattle.block.specs.Search.{looks, looked, lookInto}
 use borrow.Author.Needs.{needs}
-use Rattle.block.proofs.look_into.Statement.{statement}
-use Rattle.block.proofs.look_into.Tie as tie
+use Rattle.look.proofs.look_into.Statement.{statement}
+use Rattle.look.proofs.look_into.Tie as tie
 
 -- what the search says, of the block's part of the map
 sought : (c : tie.After-search-window) → let a = c .before .before .before .before .before .before .before .args in
