@@ -41,7 +41,7 @@ pub fn settle(s: State, used: &mut [u32], stop: &mut [u32], j: usize) -> State
         let slot = b.slot;
         slots::clear_slot(used, slot, s.w);
         slots::clear_slot(stop, slot, s.w);
-        return change::remove_block(s, j);
+        return leave::remove_block(s, j);
     }
     pool.empty = 1;
     let mut r = s;

@@ -51,7 +51,7 @@ fn four_blocks() -> State
 fn three_blocks() -> State
     ensures { λ r. ⌜ r ≡ threeBlocks ⌝ }
 {
-    change::remove_block(four_blocks(), 1)
+    leave::remove_block(four_blocks(), 1)
 }
 
 // ---- what is written of one

@@ -6,9 +6,9 @@ use lib.ListN.{getD}
 use Rattle.state.specs.Table.{zeroBlock}
 use Rattle.state.specs.Change.{past, fallen}
 use Rattle.state.proofs.Lists.{Built, built-none, built-more, built-list}
 use Rattle.change.proofs.Shift.{past-above, fallen-below, past-le}
-use Rattle.change.proofs.without_age.Statement.{statement}
-use Rattle.change.proofs.without_age.Tie as tie
+use Rattle.leave.proofs.without_age.Statement.{statement}
+use Rattle.leave.proofs.without_age.Tie as tie
 
 abbrev Inv-loop : tie.InvT-loop
 Inv-loop place count age order r₀ k₀ r k = (k ≤ count - 1) × Built 64 k (λ j. fallen age (getD order (past place j) 0)) 0 r

@@ -7,9 +7,9 @@ use borrow.Author.Needs.{needs}
 use Rattle.state.specs.Table.{zeroBlock}
 use Rattle.state.specs.Change.{past}
 use Rattle.state.proofs.Lists.{Built, built-none, built-more, built-list}
 use Rattle.change.proofs.Shift.{past-above, past-le}
-use Rattle.change.proofs.without_block.Statement.{statement}
-use Rattle.change.proofs.without_block.Tie as tie
+use Rattle.leave.proofs.without_block.Statement.{statement}
+use Rattle.leave.proofs.without_block.Tie as tie
 
 abbrev Inv-loop : tie.InvT-loop
 Inv-loop i count blocks r₀ k₀ r k = (k ≤ count - 1) × Built 64 k (λ j. getD blocks (past i j) zeroBlock) zeroBlock r

@@ -1,7 +1,7 @@
 use borrow.Author.Tests.{lt-ltb, le-ltb}
 use borrow.Author.Needs.{needs}
-use Rattle.change.proofs.past_place.Statement.{statement}
-use Rattle.change.proofs.past_place.Tie as tie
+use Rattle.leave.proofs.past_place.Statement.{statement}
+use Rattle.leave.proofs.past_place.Tie as tie
 
 add-result : tie.Need-add-result
 add-result c = search needs

@@ -1,6 +1,6 @@
 use borrow.Author.Needs.{needs}
-use Rattle.change.proofs.remove_block.Statement.{statement}
-use Rattle.change.proofs.remove_block.Tie as tie
+use Rattle.leave.proofs.remove_block.Statement.{statement}
+use Rattle.leave.proofs.remove_block.Tie as tie
 
 mul-b : tie.Need-mul-b
 mul-b c = search needs

@@ -1,7 +1,7 @@
 use borrow.Author.Tests.{lt-ltb, le-ltb}
 use borrow.Author.Needs.{needs}
-use Rattle.change.proofs.fallen_age.Statement.{statement}
-use Rattle.change.proofs.fallen_age.Tie as tie
+use Rattle.leave.proofs.fallen_age.Statement.{statement}
+use Rattle.leave.proofs.fallen_age.Tie as tie
 
 sub-result : tie.Need-sub-result
 sub-result c = search needs

@@ -10,8 +10,8 @@ use Rattle.numbers.proofs.Split.{by-eq}
 use Rattle.state.specs.declared.Found.the-variants.{At, Nothing}
 use Rattle.state.specs.Change.{orElse}
 use Rattle.state.proofs.Find.{least-only}
-use Rattle.change.proofs.place_of_age.Statement.{statement}
-use Rattle.change.proofs.place_of_age.Tie as tie
+use Rattle.leave.proofs.place_of_age.Statement.{statement}
+use Rattle.leave.proofs.place_of_age.Tie as tie
 
 abbrev Inv-loop : tie.InvT-loop
 Inv-loop count age order k₀ k = (k ≤ count) × ((j : ℕ) → j < k → eqb (getD order j 0) age ≡ false)
