@@ -1,4 +1,4 @@
-use Prim.Native.Nat.{_-_}
+use Prim.Native.Nat.{ℕ, _-_}
 use mathlib.Core.Path.{_≡_, sym, ap, subst, _∙_}
 use native.Mathlib.Omega.{arith}
 use lib.ListN.{length}
@@ -50,17 +50,22 @@ less-used-requires c κs =
 sub-r : tie.Need-sub-r
 sub-r c = search needs
 
-settle-requires : tie.Need-settle-requires
-settle-requires c κs =
-    let a = c .before .before .before .before .before .before .before .before .before .before .before .before .before .args in
-    let f = c .before .before .before .before .before .before .before .before .before .before .before .before .before .pre .0 .0 in
-    let h = c .before .before .before .before .before .before .before .before .before .before .before .before .before .pre .0 .1 in
+-- whatever the live count is
+settles : (c : tie.After-less-used) (live : ℕ) → let m = c .before .before .before .before .before .mark-released-area in
+    Settles (withLive (c .less-used .result) live) (c .before .before .before .before .before .before .before .before .before .before .before .args .j) (length (m .last .1 .0)) (length (m .last .1 .1 .0))
+settles c live =
+    let a = c .before .before .before .before .before .before .before .before .before .before .before .args in
+    let f = c .before .before .before .before .before .before .before .before .before .before .before .pre .0 .0 in
+    let h = c .before .before .before .before .before .before .before .before .before .before .before .pre .0 .1 in
     let p = placed (a .t1) (length (a .used .now)) (length (a .stop .now)) f (a .j) h in
-    let m = c .before .before .before .before .before .before .before .mark-released-area in
-    subst (λ (r : State). Settles (withLive r (a .t1 .live - 1)) (a .j) (length (m .last .1 .0)) (length (m .last .1 .1 .0))) (sym (c .before .before .less-used .ensures))
-    (settles-after (a .t1) (length (a .used .now)) (length (a .stop .now)) f (a .j) h (blocks-64 (a .t1) _ (c .before .before .before .before .before .before .before .before .before .before .before .before .before .good .0)) (order-64 (a .t1) _ (c .before .before .before .before .before .before .before .before .before .before .before .before .before .good .0))
-    (lengths.pool-3 (a .t1) _ (c .before .before .before .before .before .before .before .before .before .before .before .before .before .good .0)) (m .result) (a .e - a .i) (a .t1 .live - 1) (stays (c .before .before .before .before .before .before .before)) (length (m .last .1 .0)) (length (m .last .1 .1 .0))
+    let m = c .before .before .before .before .before .mark-released-area in
+    subst (λ (r : State). Settles (withLive r live) (a .j) (length (m .last .1 .0)) (length (m .last .1 .1 .0))) (sym (c .less-used .ensures))
+    (settles-after (a .t1) (length (a .used .now)) (length (a .stop .now)) f (a .j) h (blocks-64 (a .t1) _ (c .before .before .before .before .before .before .before .before .before .before .before .good .0)) (order-64 (a .t1) _ (c .before .before .before .before .before .before .before .before .before .before .before .good .0))
+    (lengths.pool-3 (a .t1) _ (c .before .before .before .before .before .before .before .before .before .before .before .good .0)) (m .result) (a .e - a .i) live (stays (c .before .before .before .before .before)) (length (m .last .1 .0)) (length (m .last .1 .1 .0))
     (omega (arith, p .room)) (omega (arith, p .stop-room)))
+
+settle-requires : tie.Need-settle-requires
+settle-requires c κs = settles (c .before .before) _
 
 same-length : tie.Need-same-length
 same-length c = search needs

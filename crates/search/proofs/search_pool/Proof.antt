@@ -14,7 +14,7 @@ use Rattle.state.specs.declared.State.{State}
 use Rattle.state.specs.Table.{zeroBlock, blockAt}
 use Rattle.rules.specs.Turn.{putBlock}
 use Rattle.rules.specs.Alloc.{searched, searchFrom, searchPool}
-use Rattle.search.proofs.Walk.{search-found, search-missed}
+use Rattle.rules.proofs.Search.{search-found, search-missed}
 use Rattle.search.proofs.search_pool.Statement.{statement}
 use Rattle.search.proofs.search_pool.Tie as tie
 
