@@ -12,7 +12,7 @@ ghost use Rattle.sizes.specs.declared.Rounded.the-variants.{To};
 ghost use Rattle.state.specs.declared.Refusal.the-variants.{InvalidArgument, TooLarge};
 ghost use Rattle.rules.specs.Turn.{turn};
 ghost use Rattle.rules.specs.Alloc.{sizeTurn, allocTurn};
-ghost use Rattle.alloc.specs.Ready.{Allocates};
+ghost use Rattle.facts.specs.Ready.{Allocates};
 
 // The refusal of a size, by document 01's number.
 fn size_refusal(number: u32) -> Refusal

@@ -35,7 +35,7 @@ use Rattle.shape.proofs.Shaped.{shaped-is}
 use Rattle.facts.proofs.Facts.{slot-room, found-in}
 use Rattle.facts.proofs.Room.{slot-is, room-left}
 use Rattle.facts.proofs.Search.{Left, Place as Placed}
-use Rattle.release.proofs.Leaves.{released-stays}
+use Rattle.facts.proofs.Leaves.{released-stays}
 use Rattle.rules.specs.Turn.{Turn, turn, refuse, span, withLive, unitOf}
 use Rattle.rules.specs.Alloc.{searchPool, markTurn, makeTurn, placeTurn, searchedTurn, poolTurn, sizeTurn, allocTurn}
 use Rattle.rules.specs.Span.{heldIn, shownTurn, queriedTurn, queryTurn}

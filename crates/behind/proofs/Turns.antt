@@ -31,8 +31,8 @@ use Rattle.rules.specs.Span.{heldAt, heldIn}
 use Rattle.rules.specs.Release.{lessUsed, settle}
 use Rattle.rules.specs.Shrink.{cutTurn}
 use Rattle.rules.specs.Reset.{clearBlocks}
-use Rattle.alloc.proofs.Made.{length-cleared}
-use Rattle.reset.proofs.Clear.{length-clear}
+use Rattle.facts.proofs.Made.{length-cleared}
+use Rattle.facts.proofs.Clear.{length-clear}
 use Rattle.closed.specs.Sized.{Sized}
 use Rattle.closed.proofs.After.{inserted-new}
 use Rattle.closed.proofs.Words.{length-fill-slot}

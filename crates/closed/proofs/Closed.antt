@@ -25,7 +25,7 @@ use Rattle.shape.proofs.Shaped.{shaped-is}
 use Rattle.shape.proofs.Enough.{shaped-enough, enough-good}
 use Rattle.facts.proofs.Facts.{count-64, unit-g, pool-3, found-in, held-in-range}
 use Rattle.facts.proofs.Search.{Place}
-use Rattle.alloc.proofs.Pool.{whole, units-kept}
+use Rattle.facts.proofs.Pool.{whole, units-kept}
 use Rattle.rules.specs.Turn.{Turn, withLive, unitOf}
 use Rattle.rules.specs.Alloc.{markTurn, makeTurn}
 use Rattle.rules.specs.Release.{lessUsed, freeTurn}

@@ -22,7 +22,7 @@ use Rattle.shape.specs.Shaped.{Enough}
 use Rattle.shape.proofs.Head.{headed, lent, head-of}
 use Rattle.shape.proofs.Sums.{no-sums}
 use Rattle.shape.proofs.Enough.{enough-good}
-use Rattle.create.proofs.Cleared.{slots-room}
+use Rattle.facts.proofs.Cleared.{slots-room}
 use Rattle.rules.specs.Create.{Asked, poolsAsked, slotsOf, grantable, freshState}
 use Rattle.rules.specs.Reset.{emptyTable}
 use Rattle.closed.proofs.After.{empty-block, empty-age, empty-pool}

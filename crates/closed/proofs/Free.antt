@@ -18,7 +18,7 @@ use Rattle.state.specs.Shape.{isEmpty, liveOk, goodShape}
 use Rattle.state.specs.Change.{removed, withBlocks, past}
 use Rattle.shape.specs.Shaped.{Shaped}
 use Rattle.facts.proofs.Facts.{count-64, pool-3}
-use Rattle.release.proofs.Leaves.{pool-blocks, pool-area, pool-used}
+use Rattle.facts.proofs.Leaves.{pool-blocks, pool-area, pool-used}
 use Rattle.rules.specs.Turn.{putPool, withLive, withCounts}
 use Rattle.rules.specs.Release.{lessUsed}
 use Rattle.closed.specs.Sized.{Sized}

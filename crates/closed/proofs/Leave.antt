@@ -27,7 +27,7 @@ use Rattle.shape.specs.Facts.{SoundIn}
 use Rattle.shape.specs.Shaped.{Shaped, Enough}
 use Rattle.shape.proofs.Enough.{enough-good}
 use Rattle.facts.proofs.Facts.{count-64, pool-3}
-use Rattle.release.proofs.Leaves.{place-low, block-rest, age-rest}
+use Rattle.facts.proofs.Leaves.{place-low, block-rest, age-rest}
 use Rattle.closed.specs.Sized.{Sized}
 use Rattle.closed.proofs.Sums.{past-ne, past-rises, past-low, past-fallen, fallen-low, sum-without}
 use Rattle.closed.proofs.Head.{head-kept, lent-kept}

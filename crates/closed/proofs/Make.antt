@@ -32,9 +32,9 @@ use Rattle.shape.specs.Shaped.{Shaped}
 use Rattle.shape.proofs.Address.{apart-is}
 use Rattle.facts.proofs.Facts.{unit-g}
 use Rattle.facts.proofs.Room.{slot-is, place-in, room-left}
-use Rattle.alloc.specs.Ready.{Makeable}
-use Rattle.alloc.proofs.Pool.{g-good, newest-asked, new-ready}
-use Rattle.alloc.proofs.New.{makeable}
+use Rattle.facts.specs.Ready.{Makeable}
+use Rattle.facts.proofs.Pool.{g-good, newest-asked, new-ready}
+use Rattle.facts.proofs.New.{makeable}
 use Rattle.rules.specs.Turn.{putBlock, putPool, withCounts}
 use Rattle.rules.specs.Alloc.{makeTurn}
 use Rattle.closed.specs.Sized.{Sized}

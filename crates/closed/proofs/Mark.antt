@@ -15,7 +15,7 @@ use Rattle.state.specs.Shape.{isEmpty, goodShape}
 use Rattle.shape.specs.Shaped.{Shaped}
 use Rattle.facts.proofs.Facts.{count-64, pool-3}
 use Rattle.facts.proofs.Search.{Fits}
-use Rattle.alloc.proofs.Pool.{hit-ready}
+use Rattle.facts.proofs.Pool.{hit-ready}
 use Rattle.rules.specs.Turn.{putBlock, putPool, withCounts}
 use Rattle.rules.specs.Alloc.{markTurn}
 use Rattle.closed.specs.Sized.{Sized}

@@ -16,8 +16,8 @@ use Rattle.state.specs.declared.State.{State}
 use Rattle.shape.specs.Shaped.{Shaped}
 use Rattle.shape.proofs.Shaped.{shaped-is}
 use Rattle.facts.proofs.Search.{Left, search-left}
-use Rattle.alloc.specs.Ready.{Allocates}
-use Rattle.alloc.proofs.Pool.{g-good, some-units, pool-in}
+use Rattle.facts.specs.Ready.{Allocates}
+use Rattle.facts.proofs.Pool.{g-good, some-units, pool-in}
 use Rattle.closed.specs.Sized.{Sized}
 use Rattle.closed.proofs.Cases.{Seeks, poolFor, unitsFor, searchFor}
 

@@ -22,10 +22,10 @@ use Rattle.shape.proofs.Shaped.{shaped-is}
 use Rattle.facts.proofs.Facts.{slot-room, found-in}
 use Rattle.facts.proofs.Room.{slot-is, room-left}
 use Rattle.facts.proofs.Search.{Place}
-use Rattle.create.proofs.Cleared.{slots-room, length-cleared as length-cleared-front}
-use Rattle.alloc.proofs.Made.{length-cleared}
-use Rattle.reset.proofs.Clear.{length-clear}
-use Rattle.release.proofs.Leaves.{released-stays}
+use Rattle.facts.proofs.Cleared.{slots-room, length-cleared as length-cleared-front}
+use Rattle.facts.proofs.Made.{length-cleared}
+use Rattle.facts.proofs.Clear.{length-clear}
+use Rattle.facts.proofs.Leaves.{released-stays}
 use Rattle.rules.specs.Turn.{Turn, withLive, clearSlot}
 use Rattle.rules.specs.Create.{Asked, slotsOf, granted}
 use Rattle.rules.specs.Alloc.{markTurn, makeTurn}

@@ -2,3 +2,9 @@ pub mod Facts
 pub mod Keep
 pub mod Search
 pub mod Room
+pub mod Clear
+pub mod Cleared
+pub mod Leaves
+pub mod Made
+pub mod New
+pub mod Pool

@@ -10,7 +10,7 @@ ghost use Rattle.state.specs.Table.{one};
 ghost use Rattle.state.specs.Shape.{isEmpty};
 ghost use Rattle.rules.specs.Turn.{turn};
 ghost use Rattle.rules.specs.Alloc.{markTurn};
-ghost use Rattle.grant.specs.Ready.{Markable};
+ghost use Rattle.facts.specs.Ready.{Markable};
 
 // 1 for a block that is flagged empty: its pool then keeps one empty block less.
 fn one_if_empty(b: Block) -> u32

@@ -10,7 +10,7 @@ ghost use lib.ListN.{length};
 ghost use Rattle.state.specs.Change.{inserted};
 ghost use Rattle.rules.specs.Turn.{turn, clearSlot};
 ghost use Rattle.rules.specs.Alloc.{markTurn, newTurn};
-ghost use Rattle.make.specs.Ready.{Makeable, Makes};
+ghost use Rattle.facts.specs.Ready.{Makeable, Makes};
 
 // A block at its place and slot, with a span of `n` units at unit 0.
 fn make_span(s: State, used: &mut [u32], stop: &mut [u32], b: Block, n: u32) -> Outcome

@@ -8,7 +8,7 @@ ghost use Rattle.state.specs.declared.Answer.{Answer};
 ghost use Rattle.state.specs.Table.{blockAt, poolAt};
 ghost use Rattle.rules.specs.Turn.{turn};
 ghost use Rattle.rules.specs.Release.{lessUsed, settle};
-ghost use Rattle.settle.specs.Settles.{Settles};
+ghost use Rattle.facts.specs.Ready.{Settles};
 
 // `n` units of block `j`, whose record becomes `b`, are no longer used.
 pub fn less_used(s: State, j: usize, b: Block, n: u32) -> State

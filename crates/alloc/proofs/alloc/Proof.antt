@@ -14,7 +14,7 @@ use Rattle.shape.specs.Shaped.{Shaped}
 use Rattle.shape.proofs.Shaped.{shaped-is}
 use Rattle.rules.specs.Turn.{turn, refuse}
 use Rattle.rules.specs.Alloc.{sizeTurn, allocTurn}
-use Rattle.alloc.proofs.Pool.{g-good}
+use Rattle.facts.proofs.Pool.{g-good}
 use borrow.Author.Needs.{needs}
 use Rattle.alloc.proofs.alloc.Statement.{statement}
 use Rattle.alloc.proofs.alloc.Tie as tie

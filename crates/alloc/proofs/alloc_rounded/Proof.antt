@@ -19,9 +19,8 @@ use Rattle.rules.specs.Turn.{Turn}
 use Rattle.rules.specs.Alloc.{searchPool, markTurn, newTurn, searchedTurn}
 use Rattle.facts.proofs.Facts.{count-64}
 use Rattle.facts.proofs.Search.{Fits, Left, Place, search-left}
-use Rattle.grant.specs.Ready.{Markable}
-use Rattle.make.specs.Ready.{Makes}
-use Rattle.alloc.proofs.Pool.{units-kept, g-good, pool-in, unit-some, bytes-in, whole, some-units, looked-into, hit-ready, newest-asked, new-ready}
+use Rattle.facts.specs.Ready.{Markable, Makes}
+use Rattle.facts.proofs.Pool.{units-kept, g-good, pool-in, unit-some, bytes-in, whole, some-units, looked-into, hit-ready, newest-asked, new-ready}
 use borrow.Author.Needs.{needs}
 use Rattle.alloc.proofs.alloc_rounded.Statement.{statement}
 use Rattle.alloc.proofs.alloc_rounded.Tie as tie

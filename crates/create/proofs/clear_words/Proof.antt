@@ -4,7 +4,7 @@ use mathlib.Core.Path.{_≡_, refl, ap, _∙_}
 use native.Mathlib.Omega.{arith}
 use lib.ListN.{length, set}
 use Rattle.rules.specs.Create.{cleared}
-use Rattle.create.proofs.Cleared.{cleared-more, length-cleared}
+use Rattle.facts.proofs.Cleared.{cleared-more, length-cleared}
 use Rattle.create.proofs.clear_words.Statement.{statement}
 use Rattle.create.proofs.clear_words.Tie as tie
 

@@ -8,7 +8,7 @@ use Rattle.state.specs.declared.Outcome.{Outcome}
 use Rattle.rules.specs.Turn.{turn}
 use Rattle.rules.specs.Create.{grantable}
 use Rattle.create.specs.Asked.{asked}
-use Rattle.create.proofs.Cleared.{slots-room, slots-few}
+use Rattle.facts.proofs.Cleared.{slots-room, slots-few}
 use Rattle.create.proofs.Turns.{words-low, words-high, refused-is, granted-is}
 use borrow.Author.Needs.{needs}
 use Rattle.create.proofs.create.Statement.{statement}

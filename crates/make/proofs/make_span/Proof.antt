@@ -6,8 +6,8 @@ use Rattle.state.specs.declared.State.{State}
 use Rattle.state.specs.Change.{inserted}
 use Rattle.rules.specs.Turn.{Turn, clearSlot}
 use Rattle.rules.specs.Alloc.{markTurn}
-use Rattle.grant.specs.Ready.{Markable}
-use Rattle.make.proofs.Made.{length-cleared, made}
+use Rattle.facts.specs.Ready.{Markable}
+use Rattle.facts.proofs.Made.{length-cleared, made}
 use borrow.Author.Needs.{needs}
 use Rattle.make.proofs.make_span.Statement.{statement}
 use Rattle.make.proofs.make_span.Tie as tie

@@ -24,8 +24,8 @@ use Rattle.state.proofs.Lengths.{blocks-64, order-64, pool-3}
 use Rattle.rules.specs.Turn.{Turn, turn, refuse, clearSlot}
 use Rattle.rules.specs.Alloc.{markTurn, makeTurn, placeTurn, newTurn}
 use Rattle.facts.proofs.Facts.{arranged, slotted}
-use Rattle.make.specs.Ready.{Makeable}
-use Rattle.make.proofs.New.{unit-low, bytes-range, span-fits, makeable}
+use Rattle.facts.specs.Ready.{Makeable}
+use Rattle.facts.proofs.New.{unit-low, bytes-range, span-fits, makeable}
 use borrow.Author.Needs.{needs}
 use Rattle.make.proofs.new_span.Statement.{statement}
 use Rattle.make.proofs.new_span.Tie as tie

@@ -11,8 +11,8 @@ use Rattle.state.proofs.Lengths as lengths
 use Rattle.facts.proofs.Facts.{pool-3, placed}
 use Rattle.rules.specs.Turn.{withLive}
 use Rattle.rules.specs.Release.{lessUsed, settle}
-use Rattle.settle.specs.Settles.{Settles}
-use Rattle.release.proofs.Leaves.{Stays, released-stays, less-ready, settles-after}
+use Rattle.facts.specs.Ready.{Settles}
+use Rattle.facts.proofs.Leaves.{Stays, released-stays, less-ready, settles-after}
 use borrow.Author.Needs.{needs}
 use Rattle.release.proofs.free.Statement.{statement}
 use Rattle.release.proofs.free.Tie as tie

@@ -5,7 +5,7 @@ use lib.ListN.{length}
 use Rattle.state.specs.Table.{blockAt}
 use Rattle.rules.specs.Turn.{clearSlot}
 use Rattle.rules.specs.Reset.{clearBlocks}
-use Rattle.reset.proofs.Clear.{clear-none, clear-more, length-clear}
+use Rattle.facts.proofs.Clear.{clear-none, clear-more, length-clear}
 use Rattle.reset.proofs.clear_blocks.Statement.{statement}
 use Rattle.reset.proofs.clear_blocks.Tie as tie
 

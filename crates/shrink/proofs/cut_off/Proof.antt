@@ -7,7 +7,7 @@ use Rattle.state.specs.declared.State.{State}
 use Rattle.rules.specs.Turn.{turn}
 use Rattle.rules.specs.Release.{lessUsed}
 use Rattle.facts.proofs.Facts.{placed}
-use Rattle.release.proofs.Leaves.{less-ready}
+use Rattle.facts.proofs.Leaves.{less-ready}
 use borrow.Author.Needs.{needs}
 use Rattle.shrink.proofs.cut_off.Statement.{statement}
 use Rattle.shrink.proofs.cut_off.Tie as tie

@@ -31,12 +31,10 @@ use Rattle.state.proofs.Find.{Latest, latest-of}
 use Rattle.shape.specs.Parts.{poolSum}
 use Rattle.shape.specs.Shaped.{Shaped}
 use Rattle.rules.specs.Turn.{unitOf}
 use Rattle.facts.proofs.Facts.{count-64, unit-g, placed}
 use Rattle.facts.proofs.Room.{pool-small, live-small}
 use Rattle.facts.proofs.Search.{Fits}
-use Rattle.grant.specs.Ready.{Markable}
-use Rattle.make.specs.Ready.{Makes}
-use Rattle.alloc.specs.Ready.{Allocates}
+use Rattle.facts.specs.Ready.{Markable, Makes, Allocates}
 
 pub g-good : (g : ℕ) → (g ≡ 64) ⊎ ((g ≡ 128) ⊎ (g ≡ 256)) → isGranularity g ≡ true
 unfolding isGranularity

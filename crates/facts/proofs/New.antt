@@ -16,9 +16,9 @@ use Rattle.state.specs.declared.Place.the-variants.{Address}
 use Rattle.state.specs.Table.{poolAt}
 use Rattle.state.specs.Find.{lowestSlot, lowestPlace}
 use Rattle.shape.specs.Shaped.{Shaped}
 use Rattle.facts.proofs.Facts.{unit-g, slot-room}
 use Rattle.facts.proofs.Room.{slot-is, place-in, room-left, pool-small, live-small, enters}
-use Rattle.make.specs.Ready.{Makeable, Makes}
+use Rattle.facts.specs.Ready.{Makeable, Makes}
 
 module _ (s : State) (u t p n bytes : ℕ) (m : Makes s u t p n bytes) where
   abbrev f : Shaped s u t

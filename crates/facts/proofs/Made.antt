@@ -15,8 +15,7 @@ use Rattle.state.specs.Table.{zeroBlock, blockAt, poolAt, one}
 use Rattle.state.specs.Shape.{isEmpty}
 use Rattle.state.specs.Change.{withBlocks, inserted}
 use Rattle.rules.specs.Turn.{unitOf, clearSlot}
-use Rattle.grant.specs.Ready.{Markable}
-use Rattle.make.specs.Ready.{Makeable}
+use Rattle.facts.specs.Ready.{Markable, Makeable}
 
 pub length-cleared : (w slot : ℕ) (ws : List ℕ) → (slot + 1) * w ≤ length ws → length (clearSlot w slot ws) ≡ length ws
 length-cleared w slot ws h = length-put-slot w slot ws (replicate w 0) h (length-replicate {A = ℕ} w 0)

@@ -25,11 +25,11 @@ use Rattle.state.proofs.Tests.{every-at, sum-term}
 use Rattle.state.proofs.Find.{Least, least-of}
 use Rattle.shape.specs.Parts.{poolSum}
 use Rattle.shape.specs.Shaped.{Shaped}
 use Rattle.facts.proofs.Facts.{count-64, pool-3, placed}
 use Rattle.change.specs.Ready.{Leaves}
 use Rattle.rules.specs.Turn.{withLive, withCounts}
 use Rattle.rules.specs.Release.{lessUsed}
-use Rattle.settle.specs.Settles.{Settles}
+use Rattle.facts.specs.Ready.{Settles}
 
 -- ---- a record whose ten numbers are 0 is the zero record
 abbrev make : ℕ → ℕ → ℕ → ℕ → ℕ → ℕ → ℕ → ℕ → ℕ → ℕ → Block
