@@ -1,14 +1,10 @@
 -- The table after each change: its blocks, ages and pools, and the sum of the used counts. Assumes nothing.
-use Prim.Native.Nat.{ℕ, zero, suc, _+_, _-_, _≤_, _<_}
-use mathlib.Core.Bool.{Bool, true, false}
-use mathlib.Core.List.{List}
-use mathlib.Core.Path.{_≡_, refl, sym, ap, subst, _∙_}
+use Prim.Native.Nat.{ℕ, _+_, _-_, _≤_, _<_}
+use mathlib.Core.Path.{_≡_, refl, ap, _∙_}
 use native.Mathlib.Nat.{zero-add}
-use native.Mathlib.Numerals.{add-one}
 use native.Mathlib.Omega.{arith}
-use lib.ListN.{length, getD, replicate, List·getD-eq-default, getD-replicate as getD-replicate-in}
+use lib.ListN.{getD, getD-replicate as getD-replicate-in}
 use lib.Seq.{getD-set-same, getD-set-other}
-use Rattle.numbers.proofs.Split.{by-le, by-eq}
 use Rattle.block.specs.declared.Block.{Block}
 use Rattle.sizes.specs.declared.Pool.{Pool}
 use Rattle.sizes.specs.Pools.{freshPool}
@@ -16,12 +12,12 @@ use Rattle.state.specs.declared.State.{State}
 use Rattle.state.specs.Table.{zeroBlock, blockAt, ageAt, poolAt, sum}
 use Rattle.state.specs.Change.{movedUp, placeOf, placeOfAge, past, fallen, withBlocks, inserted, removed}
 use Rattle.state.proofs.Tests.{sum-same, sum-more}
-use Rattle.state.proofs.Lists.{length-listFrom, getD-listFrom, getD-replicate}
-use Rattle.rules.specs.Turn.{putBlock, putPool, withLive, withCounts}
+use Rattle.state.proofs.Lists.{getD-listFrom, getD-replicate}
+use Rattle.rules.specs.Turn.{putBlock, putPool, withCounts}
 use Rattle.rules.specs.Release.{lessUsed}
 use Rattle.rules.specs.Reset.{emptyTable}
 use Rattle.closed.specs.Sized.{Sized}
-use Rattle.closed.proofs.Sums.{sum-put, past-ne, past-low, sum-without}
+use Rattle.closed.proofs.Sums.{sum-put, sum-without}
 
 -- the used counts of the first n blocks
 abbrev pub usedSum : State → ℕ → ℕ
@@ -127,3 +123,7 @@ module _ (s : State) where
 
   pub empty-pool : (p : ℕ) → p < 3 → poolAt (emptyTable s) p ≡ freshPool (s .g)
   empty-pool p h = getD-replicate-in 3 p (freshPool (s .g)) (freshPool 0) h
+
+  pub empty-used : usedSum (emptyTable s) 0 ≡ 0
+  unfolding sum
+  empty-used = refl

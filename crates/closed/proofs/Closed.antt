@@ -5,7 +5,7 @@ use mathlib.Core.List.{List}
 use mathlib.Core.Logic.{_⊎_, inl, inr, ⊎-elim}
 use mathlib.Core.Path.{_≡_, refl, sym, ap, subst, _∙_}
 use native.Mathlib.Omega.{arith}
-use borrow.Author.Tests.{leb-false, ne-eqb, eq-eqb}
+use borrow.Author.Tests.{leb-true, leb-false, ne-eqb, eq-eqb}
 use lib.Dec.{eqb}
 use lib.ListN.{length}
 use Rattle.numbers.proofs.Units.{units-hold}
@@ -88,7 +88,8 @@ module _ (s : State) (u t : List ℕ) (z : Sized s) (size bytes : ℕ) (k : Seek
       let a = seeks-ready s u t size bytes k in
       let same : r .pools ≡ s .pools = ap (λ (x : State). x .pools) (search-other s u p n) in
       let list : r .pool ≡ s .pool = seeks-left s u t size bytes k z .pools in
-      make-good r (length u) (length t) shaped sized p n bytes at slot (omega (arith, same, pool-below bytes (s .g) (s .pools) (a .shaped .head .pools-listed))) (seeks-some s u t size bytes k)
+      make-good r (length u) (length t) shaped sized p n bytes at slot
+      (omega (arith, same, pool-below bytes (s .g) (s .pools) (a .shaped .head .pools-listed))) (seeks-some s u t size bytes k)
       (a .some) (a .most) (units-kept s r list p p n n bytes refl refl (whole s (length u) (length t) bytes a)) m u t
 
 module _ (s : State) (u t : List ℕ) (z : Sized s) where
@@ -108,13 +109,21 @@ module _ (s : State) (u t : List ℕ) (z : Sized s) where
       (λ ne.
       less-good s (length u) (length t) f z j h c (e - i) (s .live - 1) some (k .counted)
       (subst (λ (b : Bool). Changed s (blockAt s j) c (blockAt s j .used - (e - i)) b) (ne-eqb (blockAt s j .used - (e - i)) 0 (λ q. ne (now ∙ q))) ch))
-      (λ none goes. gone-good s (length u) (length t) f z j h c (e - i) (s .live - 1) some (k .counted) (omega (arith, now, none, k .counted)) (emptied f h c ch (sym now ∙ none)))
+      (λ none goes.
+      gone-good s (length u) (length t) f z j h c (e - i) (s .live - 1) some (k .counted) (omega (arith, now, none, k .counted))
+      (emptied c ch (sym now ∙ none)))
       (λ none kept off.
-      settled-good s (length u) (length t) f z j h c (e - i) (s .live - 1) some (k .counted) (omega (arith, now, none, k .counted)) (emptied f h c ch (sym now ∙ none)) kept off)
+      settled-good s (length u) (length t) f z j h c (e - i) (s .live - 1) some (k .counted) (omega (arith, now, none, k .counted))
+      (emptied c ch (sym now ∙ none)) kept off)
     where
-      emptied : Shaped s (length u) (length t) → j < s .count → (c : Block) → Changed s (blockAt s j) c (blockAt s j .used - (e - i)) (eqb (blockAt s j .used - (e - i)) 0)
+      emptied : (c : Block) → Changed s (blockAt s j) c (blockAt s j .used - (e - i)) (eqb (blockAt s j .used - (e - i)) 0)
           → blockAt s j .used - (e - i) ≡ 0 → Changed s (blockAt s j) c 0 true
-      emptied f h c ch none = record { sound = ch .sound; lies = ch .lies; used-is = ch .used-is ∙ none; empty-is = ch .empty-is ∙ eq-eqb (blockAt s j .used - (e - i)) 0 none }
+      emptied c ch none = record {
+        sound = ch .sound;
+        lies = ch .lies;
+        used-is = ch .used-is ∙ none;
+        empty-is = ch .empty-is ∙ eq-eqb (blockAt s j .used - (e - i)) 0 none;
+      }
 
   -- ---- shrink
   cut : (a size j i e n : ℕ) → Cuts s u t a size j i e n → KeepsIf u t (cutTurn s u t a j i e n)
@@ -137,7 +146,8 @@ module _ (s : State) (u t : List ℕ) (z : Sized s) where
 
     alloc-keeps : (size : ℕ) → Keeps u t (step s u t (alloc size))
     alloc-keeps size =
-        alloc-cases (Keeps u t) s u t (λ why. good) size (full s u t z size) (λ bytes j i k e. hit s u t z size bytes k j i e) (λ bytes at slot k m. make s u t z size bytes k at slot m)
+        alloc-cases (Keeps u t) s u t (λ why. good) size (full s u t z size)
+        (λ bytes j i k e. hit s u t z size bytes k j i e) (λ bytes at slot k m. make s u t z size bytes k at slot m)
 
     query-keeps : (a : ℕ) → Keeps u t (step s u t (query a))
     query-keeps a = query-cases (Keeps u t) s u t (λ why. good) a (λ j i e k. good)
@@ -147,12 +157,6 @@ module _ (s : State) (u t : List ℕ) (z : Sized s) where
         let f = shaped-is s (length u) (length t) good in
         reset-cases (Keeps u t) s u t (λ why. good) hard (λ e. empty-good s (length u) (length t) (f .head) (f .lent))
         (λ e off. kept-good s (length u) (length t) f off (s .count) (omega arith))
-
-    release-keeps : (a : ℕ) → KeepsIf u t (step s u t (release a))
-    release-keeps a = release-cases (KeepsIf u t) s u t (λ why l. good) a (freed a)
-
-    shrink-keeps : (a size : ℕ) → KeepsIf u t (step s u t (shrink a size))
-    shrink-keeps a size = shrink-cases (KeepsIf u t) s u t (λ why l. good) a size (release-keeps a) (λ j i e n k l. good) (cut a size)
 
     -- ---- the two that make units free, with no premise: kept, or granted with live above used
     abbrev Either : Turn → Type 0
@@ -165,7 +169,8 @@ module _ (s : State) (u t : List ℕ) (z : Sized s) where
 
     granted-free : (a j i e : ℕ) → Freed (freeTurn s u t a j i e .answer)
     granted-free a j i e =
-        settle-cases (λ x. Freed (x .answer)) (withLive (lessUsed s j (released (blockAt s j) i e) (e - i)) (s .live - 1)) _ _ _ j (λ ne. tt) (λ none goes. tt) (λ none kept off. tt)
+        settle-cases (λ x. Freed (x .answer)) (withLive (lessUsed s j (released (blockAt s j) i e) (e - i)) (s .live - 1)) _ _ _ j
+        (λ ne. tt) (λ none goes. tt) (λ none kept off. tt)
 
     release-either : (a : ℕ) → Either (step s u t (release a))
     release-either a = release-cases Either s u t (λ why. inl good) a (λ j i e k. decide (freeTurn s u t a j i e) (granted-free a j i e) (freed a j i e k))
@@ -182,17 +187,7 @@ module _ (s : State) (u t : List ℕ) (z : Sized s) where
     either-left c free e = ⊎-elim (λ g. inl (as-left c g)) (λ x. inr (free, x .0, x .1)) e
 
 -- ---- the statements
--- whatever the call: where the live count is not above the used units, the shape is good
-pub closed : (s : State) (u t : List ℕ) (c : Call) → Sized s → goodShape s (length u) (length t) ≡ true → liveOk (step s u t c .state) ≡ true → Good (step s u t c)
-closed s u t (create a) z good l = as-left s u t z good (create a) (create-keeps s u t z good a)
-closed s u t (alloc size) z good l = as-left s u t z good (alloc size) (alloc-keeps s u t z good size)
-closed s u t (release a) z good l = as-left s u t z good (release a) (release-keeps s u t z good a l)
-closed s u t (shrink a size) z good l = as-left s u t z good (shrink a size) (shrink-keeps s u t z good a size l)
-closed s u t (query a) z good l = as-left s u t z good (query a) (query-keeps s u t z good a)
-closed s u t softReset z good l = as-left s u t z good softReset (reset-keeps s u t z good false)
-closed s u t hardReset z good l = as-left s u t z good hardReset (reset-keeps s u t z good true)
-
--- with no premise on the live count: good, or a granted release or shrink has left it above the used units
+-- good, or a granted release or shrink has left live above used
 pub closed-but-live : (s : State) (u t : List ℕ) (c : Call) → Sized s → goodShape s (length u) (length t) ≡ true → Closed s u t c
 closed-but-live s u t (create a) z good = inl (as-left s u t z good (create a) (create-keeps s u t z good a))
 closed-but-live s u t (alloc size) z good = inl (as-left s u t z good (alloc size) (alloc-keeps s u t z good size))
@@ -202,7 +197,13 @@ closed-but-live s u t (query a) z good = inl (as-left s u t z good (query a) (qu
 closed-but-live s u t softReset z good = inl (as-left s u t z good softReset (reset-keeps s u t z good false))
 closed-but-live s u t hardReset z good = inl (as-left s u t z good hardReset (reset-keeps s u t z good true))
 
--- so a call that makes no units free leaves a good shape
+-- so where the live count is not above the used units, the shape is good, whatever the call
+pub closed : (s : State) (u t : List ℕ) (c : Call) → Sized s → goodShape s (length u) (length t) ≡ true → liveOk (step s u t c .state) ≡ true → Good (step s u t c)
+closed s u t c z good l =
+    let r = step s u t c .state in
+    ⊎-elim (λ g. g) (λ x. absurd (omega (arith, x .2, leb-true (r .live) (sum (r .count) (λ i. blockAt r i .used)) l))) (closed-but-live s u t c z good)
+
+-- a call that makes no units free leaves a good shape
 pub closed-other : (s : State) (u t : List ℕ) (c : Call) → Sized s → goodShape s (length u) (length t) ≡ true → (Frees c → ⊥) → Good (step s u t c)
 closed-other s u t c z good frees-not = ⊎-elim (λ g. g) (λ x. absurd (frees-not (x .0))) (closed-but-live s u t c z good)
 

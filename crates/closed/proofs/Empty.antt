@@ -1,29 +1,27 @@
 -- A table with no block, as creation and a hard reset leave it, has a good shape. Assumes nothing.
-use Prim.Native.Nat.{ℕ, _+_, _*_, _%_, _≤_, _<_, min}
-use mathlib.Core.Bool.{Bool, true, false, _||_}
+use Prim.Native.Nat.{ℕ, _%_, _≤_}
+use mathlib.Core.Bool.{Bool, true, _||_}
 use mathlib.Core.List.{List, [], _∷_}
-use mathlib.Core.Path.{_≡_, refl, sym, ap, subst, _∙_}
+use mathlib.Core.Path.{_≡_, refl, sym, subst, _∙_}
 use native.Mathlib.Omega.{arith}
 use borrow.Author.Tests.{leb-true}
 use lib.Dec.{leb, eqb}
-use lib.ListN.{length, replicate}
+use lib.ListN.{length}
 use Rattle.numbers.specs.Pick.{pick}
 use Rattle.block.specs.declared.Block.{Block}
-use Rattle.sizes.specs.Pools.{freshPool}
 use Rattle.sizes.proofs.Limits.{granularity-in-force-good, base-size-in-force-good}
 use Rattle.sizes.proofs.Cases.{picked}
 use Rattle.state.specs.declared.State.{State}
-use Rattle.state.specs.Table.{zeroBlock, blockAt, sum}
+use Rattle.state.specs.Table.{sum}
 use Rattle.state.specs.Shape.{isZero, arenaOk, numbersOk, goodShape}
 use Rattle.state.proofs.Tests.{and-both, every-at}
 use Rattle.shape.specs.Parts.{headOk}
 use Rattle.shape.specs.Facts.{Headed, Lent}
-use Rattle.shape.specs.Shaped.{Enough}
 use Rattle.shape.proofs.Head.{headed, lent, head-of}
 use Rattle.shape.proofs.Sums.{no-sums}
 use Rattle.shape.proofs.Enough.{enough-good}
 use Rattle.facts.proofs.Cleared.{slots-room}
-use Rattle.rules.specs.Create.{Asked, poolsAsked, slotsOf, grantable, freshState}
+use Rattle.rules.specs.Create.{Asked, slotsOf, grantable, freshState}
 use Rattle.rules.specs.Reset.{emptyTable}
 use Rattle.closed.proofs.After.{empty-block, empty-age, empty-pool}
 use Rattle.closed.proofs.Head.{head-kept, lent-kept}

@@ -1,6 +1,6 @@
 -- A block comes as the newest: if its slot and its bytes were free and its pool counts it, the shape stays good. Assumes nothing.
 use Prim.Native.Nat.{ℕ, _+_, _-_, _≤_, _<_}
-use mathlib.Core.Bool.{Bool, true, false}
+use mathlib.Core.Bool.{Bool, true}
 use mathlib.Core.List.{List}
 use mathlib.Core.Logic.{_⊎_, ⊎-elim}
 use mathlib.Core.Path.{_≡_, refl, sym, ap, subst, _∙_}
@@ -25,11 +25,11 @@ use Rattle.state.proofs.Find.{Least, least-of}
 use Rattle.change.proofs.Shift.{moved-below, moved-here, moved-above}
 use Rattle.shape.specs.Parts.{poolSum}
 use Rattle.shape.specs.Facts.{SoundIn}
-use Rattle.shape.specs.Shaped.{Shaped, Enough}
+use Rattle.shape.specs.Shaped.{Shaped}
 use Rattle.shape.proofs.Sound.{sized}
 use Rattle.shape.proofs.Enough.{enough-good}
 use Rattle.closed.proofs.Head.{head-kept, lent-kept}
-use Rattle.closed.proofs.Pools.{blocksIn, emptyIn, areaIn, usedIn, adds, nothing, Entered, entered, pool-after, empties-after, empties-before}
+use Rattle.closed.proofs.Pools.{blocksIn, emptyIn, areaIn, usedIn, adds, nothing, Entered, entered, pool-after, empties-after, few-after}
 
 -- ---- its place in the order of address
 pub record PlaceIs (s : State) (b : Block) (m : ℕ) : Type 0 where
@@ -172,14 +172,9 @@ module _ (s : State) (u t : ℕ) (f : Shaped s u t) (b : Block) (live : ℕ) (bl
   pools-are : (p : ℕ) → p < 3 → poolAt after p ≡ poolSum after (s .count + 1) p
   pools-are p l =
       pool-after s after p nothing (adds p b) refl (f .pools p l)
-      (entered p (poolAt s p) (getD pool p (freshPool 0)) b (λ e. subst (λ (q : ℕ). Entered (poolAt s q) (getD pool q (freshPool 0)) b) e own) (λ ne. other p (λ e. ne (sym e))))
+      (entered p (poolAt s p) (getD pool p (freshPool 0)) b
+      (λ e. subst (λ (q : ℕ). Entered (poolAt s q) (getD pool q (freshPool 0)) b) e own) (λ ne. other p (λ e. ne (sym e))))
       (more (blocksIn p)) (more (emptyIn p)) (more (areaIn p)) (more (usedIn p))
-
-  few-empty : (p : ℕ) → p < 3 → getD pool p (freshPool 0) .empty ≤ pick (s .immediate) 0 1
-  few-empty p l =
-      by-eq p (b .pool)
-      (λ e. subst (λ (q : ℕ). getD pool q (freshPool 0) .empty ≤ pick (s .immediate) 0 1) (sym e) few)
-      (λ ne. subst (λ (q : Pool). q .empty ≤ pick (s .immediate) 0 1) (sym (other p ne)) (empties-before s u t f p l))
 
   pub enter-good : live ≤ sum (s .count) (λ i. blockAt s i .used) + b .used → goodShape after u t ≡ true
   enter-good enough =
@@ -189,7 +184,7 @@ module _ (s : State) (u t : ℕ) (f : Shaped s u t) (b : Block) (live : ℕ) (bl
         sound = block-sound;
         slots-apart = apart;
         pools = pools-are;
-        empties = λ p l. empties-after after p (pools-are p l) (few-empty p l);
+        empties = λ p l. empties-after after p (pools-are p l) (few-after s u t f pool (b .pool) other few p l);
         live = omega (arith, moved (λ c. c .used));
         age-low = ages-low;
         next = next;

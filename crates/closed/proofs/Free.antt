@@ -1,19 +1,15 @@
 -- Units of a span are made free: the shape stays good, but for the live count. Assumes nothing.
-use Prim.Native.Nat.{ℕ, _+_, _-_, _≤_, _<_}
-use mathlib.Core.Bool.{Bool, true, false, not, _||_}
-use mathlib.Core.List.{List}
+use Prim.Native.Nat.{ℕ, _-_, _≤_, _<_}
+use mathlib.Core.Bool.{Bool, true, false}
 use mathlib.Core.Path.{_≡_, refl, sym, ap, subst, _∙_}
 use native.Mathlib.Omega.{arith}
-use borrow.Author.Tests.{leb-true, eq-eqb, ne-eqb}
-use lib.Dec.{eqb, leb}
-use lib.ListN.{length, set}
+use borrow.Author.Tests.{leb-true}
+use lib.ListN.{set}
 use Rattle.numbers.specs.Pick.{pick}
 use Rattle.block.specs.declared.Block.{Block}
-use Rattle.block.specs.Marking.{released, widened, shrunk, markReleased, markShrunk}
 use Rattle.sizes.specs.declared.Pool.{Pool}
-use Rattle.sizes.specs.Pools.{freshPool}
 use Rattle.state.specs.declared.State.{State}
-use Rattle.state.specs.Table.{blockAt, ageAt, poolAt, sum, one}
+use Rattle.state.specs.Table.{blockAt, poolAt, sum, one}
 use Rattle.state.specs.Shape.{isEmpty, liveOk, goodShape}
 use Rattle.state.specs.Change.{removed, withBlocks, past}
 use Rattle.shape.specs.Shaped.{Shaped}
@@ -25,7 +21,7 @@ use Rattle.closed.specs.Sized.{Sized}
 use Rattle.closed.proofs.Sums.{past-ne}
 use Rattle.closed.proofs.After.{less-block, less-block-other, less-pool, less-pool-other, put-pool, put-pool-other, removed-block, removed-age, removed-pool, removed-pool-other}
 use Rattle.closed.proofs.Sized.{sized-less, sized-live}
-use Rattle.closed.proofs.Pools.{Recounted, Entered, empties-before}
+use Rattle.closed.proofs.Pools.{Recounted, empties-before}
 use Rattle.closed.proofs.Put.{put-good}
 use Rattle.closed.proofs.Leave.{leave-good}
 use Rattle.closed.proofs.Records.{Changed}
@@ -96,14 +92,17 @@ module _ (s : State) (v w : ℕ) (f : Shaped s v w) (z : Sized s) (j : ℕ) (h :
     pub kept-good : poolAt after (blockAt after j .pool) .empty ≡ 0 → s .immediate ≡ false
         → liveOk (putPool after (blockAt after j .pool) one-empty) ≡ true → goodShape (putPool after (blockAt after j .pool) one-empty) v w ≡ true
     kept-good none off enough =
-        put-good s v w f j h c live (set (s .blocks) j c) (set (set (s .pool) p less) (blockAt after j .pool) one-empty) now-block (less-block-other s z j c n low) (k .lies) (k .sound)
+        put-good s v w f j h c live (set (s .blocks) j c) (set (set (s .pool) p less) (blockAt after j .pool) one-empty) now-block
+        (less-block-other s z j c n low) (k .lies) (k .sound)
         (subst (λ (x : Pool). Recounted (poolAt s p) x b c) (sym own) recount)
         (λ o ne. put-pool-other after now-sized (blockAt after j .pool) one-empty o (λ e. ne (e ∙ now-of)) ∙ less-pool-other s z j c n low o ne)
         (subst (λ (x : Pool). x .empty ≤ pick (s .immediate) 0 1) (sym own) (subst (λ (x : Bool). 1 ≤ pick x 0 1) (sym off) (omega arith)))
         (leb-true live (sum (s .count) (λ i. blockAt after i .used)) enough)
       where
         own : poolAt (putPool after (blockAt after j .pool) one-empty) p ≡ one-empty
-        own = ap (poolAt (putPool after (blockAt after j .pool) one-empty)) (sym now-of) ∙ put-pool after now-sized (blockAt after j .pool) one-empty (omega (arith, now-of, p-low))
+        own =
+            ap (poolAt (putPool after (blockAt after j .pool) one-empty)) (sym now-of)
+            ∙ put-pool after now-sized (blockAt after j .pool) one-empty (omega (arith, now-of, p-low))
 
         recount : Recounted (poolAt s p) one-empty b c
         recount = record {

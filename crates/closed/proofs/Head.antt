@@ -1,5 +1,5 @@
 -- What no change touches: creation's numbers, and the slots that the lent words hold; and a pool's record by its five numbers. Assumes nothing.
-use Prim.Native.Nat.{ℕ, _+_, _≤_}
+use Prim.Native.Nat.{ℕ, _≤_}
 use mathlib.Core.Bool.{true}
 use mathlib.Core.List.{List}
 use mathlib.Core.Path.{_≡_, subst, sym}

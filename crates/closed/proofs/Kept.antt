@@ -22,7 +22,7 @@ use Rattle.shape.proofs.Shaped.{shaped-is}
 use Rattle.shape.proofs.Pigeon.{sum-none}
 use Rattle.facts.proofs.Facts.{count-64, pool-3}
 use Rattle.rules.specs.Turn.{withCounts}
-use Rattle.rules.specs.Reset.{emptyTable, oldest, keep, kept}
+use Rattle.rules.specs.Reset.{oldest, keep, kept}
 use Rattle.closed.specs.Sized.{Sized}
 use Rattle.closed.proofs.After.{inserted-new, inserted-old, inserted-age, inserted-pool, inserted-pool-other, put-pool, put-pool-other}
 use Rattle.closed.proofs.Sized.{sized-inserted, sized-kept-blocks}

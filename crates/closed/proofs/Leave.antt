@@ -1,6 +1,6 @@
 -- A block goes, and its pool no longer counts it: the shape stays good, but for the live count. Assumes nothing.
 use Prim.Native.Nat.{ℕ, _+_, _-_, _≤_, _<_}
-use mathlib.Core.Bool.{Bool, true, false}
+use mathlib.Core.Bool.{Bool, true}
 use mathlib.Core.List.{List}
 use mathlib.Core.Path.{_≡_, refl, sym, ap, subst, _∙_}
 use native.Mathlib.Omega.{arith}
@@ -8,7 +8,7 @@ use borrow.Author.Tests.{eqb-true}
 use lib.Dec.{eqb}
 use lib.ListN.{getD}
 use Rattle.numbers.specs.Pick.{pick}
-use Rattle.numbers.proofs.Split.{by-eq, by-le, not-both}
+use Rattle.numbers.proofs.Split.{by-le}
 use Rattle.block.specs.declared.Block.{Block}
 use Rattle.sizes.specs.declared.Pool.{Pool}
 use Rattle.sizes.specs.Pools.{freshPool}
@@ -24,14 +24,14 @@ use Rattle.state.proofs.Find.{Least, least-of}
 use Rattle.change.proofs.Shift.{past-above, fallen-below}
 use Rattle.shape.specs.Parts.{poolSum}
 use Rattle.shape.specs.Facts.{SoundIn}
-use Rattle.shape.specs.Shaped.{Shaped, Enough}
+use Rattle.shape.specs.Shaped.{Shaped}
 use Rattle.shape.proofs.Enough.{enough-good}
 use Rattle.facts.proofs.Facts.{count-64, pool-3}
 use Rattle.facts.proofs.Leaves.{place-low, block-rest, age-rest}
 use Rattle.closed.specs.Sized.{Sized}
 use Rattle.closed.proofs.Sums.{past-ne, past-rises, past-low, past-fallen, fallen-low, sum-without}
 use Rattle.closed.proofs.Head.{head-kept, lent-kept}
-use Rattle.closed.proofs.Pools.{blocksIn, emptyIn, areaIn, usedIn, adds, nothing, Entered, entered, back, pool-after, empties-after, empties-before}
+use Rattle.closed.proofs.Pools.{blocksIn, emptyIn, areaIn, usedIn, adds, nothing, Entered, entered, back, pool-after, empties-after, empties-before, few-after}
 
 module _ (s : State) (u t : ℕ) (f : Shaped s u t) where
   -- ---- its place in the order of address holds its age, and no other place does
@@ -141,13 +141,8 @@ module _ (s : State) (u t : ℕ) (f : Shaped s u t) (z : Sized s) (j : ℕ) (h :
       (λ e. subst (λ (q : ℕ). Entered (getD pool q (freshPool 0)) (poolAt s q) (blockAt s j)) e own) (λ ne. sym (other p (λ e. ne (sym e))))))
       (fewer (blocksIn p)) (fewer (emptyIn p)) (fewer (areaIn p)) (fewer (usedIn p))
 
-  few-empty : (p : ℕ) → p < 3 → getD pool p (freshPool 0) .empty ≤ pick (s .immediate) 0 1
-  few-empty p l =
-      by-eq p (blockAt s j .pool)
-      (λ e.
-      subst (λ (q : ℕ). getD pool q (freshPool 0) .empty ≤ pick (s .immediate) 0 1) (sym e)
-      (omega (arith, own .empty, empties-before s u t f (blockAt s j .pool) (pool-3 s u t f j h))))
-      (λ ne. subst (λ (q : Pool). q .empty ≤ pick (s .immediate) 0 1) (sym (other p ne)) (empties-before s u t f p l))
+  few : getD pool (blockAt s j .pool) (freshPool 0) .empty ≤ pick (s .immediate) 0 1
+  few = omega (arith, own .empty, empties-before s u t f (blockAt s j .pool) (pool-3 s u t f j h))
 
   pub leave-good : live ≤ sum (s .count - 1) (λ i. getD blocks i zeroBlock .used) → goodShape after u t ≡ true
   leave-good enough =
@@ -157,7 +152,7 @@ module _ (s : State) (u t : ℕ) (f : Shaped s u t) (z : Sized s) (j : ℕ) (h :
         sound = block-sound;
         slots-apart = apart;
         pools = pools-are;
-        empties = λ p l. empties-after after p (pools-are p l) (few-empty p l);
+        empties = λ p l. empties-after after p (pools-are p l) (few-after s u t f pool (blockAt s j .pool) other few p l);
         live = enough;
         age-low = ages-low;
         next = next;

@@ -1,9 +1,9 @@
 -- A new block is made for a span, and the span marked in it: the shape stays good. Assumes nothing.
-use Prim.Native.Nat.{ℕ, _+_, _-_, _*_, _/_, _%_, _^_, _≤_, _<_}
-use mathlib.Core.Bool.{Bool, true, false, not, _&&_}
+use Prim.Native.Nat.{ℕ, _+_, _-_, _*_, _/_, _%_, _≤_, _<_}
+use mathlib.Core.Bool.{true, false, not}
 use mathlib.Core.List.{List}
 use mathlib.Core.Logic.{_⊎_, inl, inr, ⊎-elim}
-use mathlib.Core.Path.{_≡_, refl, sym, ap, subst, _∙_}
+use mathlib.Core.Path.{_≡_, sym, ap, subst, _∙_}
 use native.Mathlib.Nat.{mul-mod-left, div-add-mod'}
 use native.Mathlib.Omega.{arith}
 use borrow.Author.Tests.{eqb-false, not-true}
@@ -15,16 +15,15 @@ use Rattle.block.specs.declared.Block.{Block}
 use Rattle.block.specs.Marking.{fresh, marked}
 use Rattle.sizes.specs.declared.Pool.{Pool}
 use Rattle.sizes.specs.Limits.{isGranularity}
-use Rattle.sizes.specs.Sizes.{idealSize}
 use Rattle.sizes.proofs.Limits.{granularity-is, granularity-word, base-size-divides}
 use Rattle.sizes.proofs.Sizes.{ideal-words}
 use Rattle.state.specs.declared.State.{State}
 use Rattle.state.specs.declared.Found.{Found}
 use Rattle.state.specs.declared.Found.the-variants.{At, Nothing}
 use Rattle.state.specs.declared.Place.the-variants.{Address}
-use Rattle.state.specs.Table.{blockAt, ageAt, poolAt, all, sum, one}
+use Rattle.state.specs.Table.{blockAt, ageAt, poolAt, all, one}
 use Rattle.state.specs.Shape.{isEmpty, goodShape}
-use Rattle.state.specs.Find.{least, latest, lowestPlace, placeAt, placeFree, placed, clear, newestSize, sizeOr, slotFree}
+use Rattle.state.specs.Find.{least, latest, lowestPlace, placeAt, placeFree, placed, clear, newestSize, sizeOr}
 use Rattle.state.specs.Change.{orElse, placeOf, movedUp, withBlocks, inserted}
 use Rattle.state.proofs.Tests.{and-right, all-at}
 use Rattle.state.proofs.Find.{Least, least-of, Latest, latest-of}
@@ -229,5 +228,6 @@ module _ (s : State) (v w : ℕ) (f : Shaped s v w) (z : Sized s) (p n bytes at 
       (subst (λ (o : ℕ). Entered (poolAt s o) (poolAt after o) c) (sym c-pool) (subst (λ (x : Pool). Entered (poolAt s p) x c) (sym after-pool) entered))
       other
       (subst (λ (o : ℕ). poolAt after o .empty ≤ pick (s .immediate) 0 1) (sym c-pool)
-      (subst (λ (x : Pool). x .empty ≤ pick (s .immediate) 0 1) (sym after-pool) (subst (λ (x : ℕ). x ≤ pick (s .immediate) 0 1) (sym empty-is) (empties-before s v w f p p-3))))
+      (subst (λ (x : Pool). x .empty ≤ pick (s .immediate) 0 1) (sym after-pool)
+      (subst (λ (x : ℕ). x ≤ pick (s .immediate) 0 1) (sym empty-is) (empties-before s v w f p p-3))))
       (omega (arith, changed .used-is, f .live))

@@ -1,8 +1,8 @@
 -- A span is marked in a block that has room for it: the shape stays good, and the live count stays at or below the used units. Assumes nothing.
 use Prim.Native.Nat.{ℕ, _+_, _-_, _≤_, _<_}
-use mathlib.Core.Bool.{Bool, true, false}
+use mathlib.Core.Bool.{true, false}
 use mathlib.Core.List.{List}
-use mathlib.Core.Path.{_≡_, refl, sym, ap, subst, _∙_}
+use mathlib.Core.Path.{_≡_, refl, sym, ap, subst}
 use native.Mathlib.Omega.{arith}
 use lib.ListN.{set}
 use Rattle.numbers.specs.Pick.{pick}

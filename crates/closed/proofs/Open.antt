@@ -1,7 +1,6 @@
 -- The exception is met: a state that is not BadShape, and a granted release that leaves one that is. Assumes nothing.
-use Prim.Native.Nat.{ℕ, zero, suc, _+_}
-use mathlib.Core.Bool.{Bool, true, false}
-use mathlib.Core.List.{List, [], _∷_}
+use mathlib.Core.Bool.{true, false}
+use mathlib.Core.List.{[], _∷_}
 use mathlib.Core.Path.{_≡_, refl}
 use lib.ListN.{length, replicate}
 use Rattle.bits.specs.Bits.{digit, bit, put, setBit, filled}

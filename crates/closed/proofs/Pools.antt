@@ -1,10 +1,12 @@
 -- A pool's sums by what each block adds: a block is replaced, comes or goes. Assumes nothing.
-use Prim.Native.Nat.{ℕ, _+_, _-_, _≤_, _<_}
-use mathlib.Core.Bool.{Bool, true, false, _&&_}
-use mathlib.Core.Path.{_≡_, refl, sym, ap, _∙_}
+use Prim.Native.Nat.{ℕ, _+_, _≤_, _<_}
+use mathlib.Core.Bool.{_&&_}
+use mathlib.Core.List.{List}
+use mathlib.Core.Path.{_≡_, sym, ap, subst, _∙_}
 use native.Mathlib.Omega.{arith}
 use borrow.Author.Tests.{eq-eqb, ne-eqb}
 use lib.Dec.{eqb}
+use lib.ListN.{getD}
 use Rattle.numbers.specs.Pick.{pick}
 use Rattle.numbers.proofs.Split.{by-eq}
 use Rattle.block.specs.declared.Block.{Block}
@@ -13,11 +15,8 @@ use Rattle.sizes.specs.Pools.{freshPool}
 use Rattle.state.specs.declared.State.{State}
 use Rattle.state.specs.Table.{blockAt, poolAt, sum, one, only}
 use Rattle.state.specs.Shape.{isEmpty, emptiesOf}
-use Rattle.state.specs.Change.{past}
-use Rattle.state.proofs.Tests.{sum-same, sum-more}
 use Rattle.shape.specs.Parts.{poolSum}
 use Rattle.shape.specs.Shaped.{Shaped}
-use Rattle.closed.proofs.Sums.{sum-put, sum-without}
 use Rattle.closed.proofs.Head.{pool-is}
 
 -- ---- what a block adds to the sums of pool p
@@ -150,3 +149,11 @@ empties-after r p e h = omega (arith, ap (λ (a : Pool). a .empty) e, h)
 
 pub empties-before : (s : State) (u t : ℕ) → Shaped s u t → (p : ℕ) → p < 3 → poolAt s p .empty ≤ pick (s .immediate) 0 1
 empties-before s u t f p h = omega (arith, ap (λ (a : Pool). a .empty) (f .pools p h), f .empties p h)
+
+-- the other pools' empty counts stay
+pub few-after : (s : State) (u t : ℕ) → Shaped s u t → (pool : List Pool) (own : ℕ) → ((p : ℕ) → (p ≡ own → ⊥) → getD pool p (freshPool 0) ≡ poolAt s p)
+    → getD pool own (freshPool 0) .empty ≤ pick (s .immediate) 0 1 → (p : ℕ) → p < 3 → getD pool p (freshPool 0) .empty ≤ pick (s .immediate) 0 1
+few-after s u t f pool own other few p l =
+    by-eq p own
+    (λ e. subst (λ (q : ℕ). getD pool q (freshPool 0) .empty ≤ pick (s .immediate) 0 1) (sym e) few)
+    (λ ne. subst (λ (q : Pool). q .empty ≤ pick (s .immediate) 0 1) (sym (other p ne)) (empties-before s u t f p l))

@@ -1,6 +1,6 @@
 -- A block's record and its pool's are replaced: if the block lies where it lay and the pool counts it, the shape stays good. Assumes nothing.
-use Prim.Native.Nat.{ℕ, _+_, _-_, _≤_, _<_}
-use mathlib.Core.Bool.{Bool, true, false}
+use Prim.Native.Nat.{ℕ, _+_, _≤_, _<_}
+use mathlib.Core.Bool.{true}
 use mathlib.Core.List.{List}
 use mathlib.Core.Path.{_≡_, refl, sym, ap, subst, _∙_}
 use native.Mathlib.Omega.{arith}
@@ -16,11 +16,11 @@ use Rattle.state.specs.Shape.{isZero, goodShape}
 use Rattle.state.specs.Change.{withRest}
 use Rattle.shape.specs.Parts.{poolSum}
 use Rattle.shape.specs.Facts.{SoundIn}
-use Rattle.shape.specs.Shaped.{Shaped, Enough}
+use Rattle.shape.specs.Shaped.{Shaped}
 use Rattle.shape.proofs.Enough.{enough-good}
 use Rattle.closed.proofs.Sums.{sum-put}
 use Rattle.closed.proofs.Head.{head-kept, lent-kept}
-use Rattle.closed.proofs.Pools.{blocksIn, emptyIn, areaIn, usedIn, adds, Recounted, recounted, pool-after, empties-after, empties-before}
+use Rattle.closed.proofs.Pools.{blocksIn, emptyIn, areaIn, usedIn, adds, Recounted, recounted, pool-after, empties-after, few-after}
 
 -- two records of one block: where it lies, its slot and its pool
 pub record Lies (b c : Block) : Type 0 where
@@ -68,12 +68,6 @@ module _ (s : State) (u t : ℕ) (f : Shaped s u t) (j : ℕ) (h : j < s .count)
       (λ e. subst (λ (q : ℕ). Recounted (poolAt s q) (getD pool q (freshPool 0)) (blockAt s j) b) e own) (λ ne. other p (λ e. ne (sym e))))
       (moved (blocksIn p)) (moved (emptyIn p)) (moved (areaIn p)) (moved (usedIn p))
 
-  few-empty : (p : ℕ) → p < 3 → getD pool p (freshPool 0) .empty ≤ pick (s .immediate) 0 1
-  few-empty p l =
-      by-eq p (blockAt s j .pool)
-      (λ e. subst (λ (q : ℕ). getD pool q (freshPool 0) .empty ≤ pick (s .immediate) 0 1) (sym e) few)
-      (λ ne. subst (λ (q : Pool). q .empty ≤ pick (s .immediate) 0 1) (sym (other p ne)) (empties-before s u t f p l))
-
   pub put-good : live ≤ sum (s .count) (λ i. getD blocks i zeroBlock .used) → goodShape after u t ≡ true
   put-good enough =
       enough-good after u t (record {
@@ -82,7 +76,7 @@ module _ (s : State) (u t : ℕ) (f : Shaped s u t) (j : ℕ) (h : j < s .count)
         sound = block-sound;
         slots-apart = λ i k l m e. f .slots-apart i k l m (sym (lie i .slot) ∙ e ∙ lie k .slot);
         pools = pools-are;
-        empties = λ p l. empties-after after p (pools-are p l) (few-empty p l);
+        empties = λ p l. empties-after after p (pools-are p l) (few-after s u t f pool (blockAt s j .pool) other few p l);
         live = enough;
         age-low = f .age-low;
         next = λ i k e l.

@@ -1,7 +1,7 @@
 -- A block's record after marking, release and shrink: sound, and where it was. Assumes nothing.
 use Prim.Native.Nat.{ℕ, zero, suc, _+_, _-_, _*_, _%_, _≤_, _<_, min, max}
-use mathlib.Core.Bool.{Bool, true, false, not}
-use mathlib.Core.Path.{_≡_, refl, sym, ap, subst, _∙_}
+use mathlib.Core.Bool.{Bool, true, false}
+use mathlib.Core.Path.{_≡_, refl, sym, _∙_}
 use native.Mathlib.Omega.{arith}
 use borrow.Author.Tests.{eqb-true, eqb-false}
 use lib.Dec.{eqb, lit<}
@@ -9,8 +9,8 @@ use Rattle.numbers.specs.Pick.{pick}
 use Rattle.numbers.proofs.Split.{not-both}
 use Rattle.block.specs.declared.Block.{Block}
 use Rattle.block.specs.Record.{emptyFlag, dirtyFlag, isOn, on, off, withNumbers}
-use Rattle.block.specs.Marking.{moved, full, marked, emptied, widened, released}
-use Rattle.sizes.proofs.Cases.{picked, by-test}
+use Rattle.block.specs.Marking.{moved, marked, emptied, widened, released}
+use Rattle.sizes.proofs.Cases.{picked}
 use Rattle.state.specs.declared.State.{State}
 use Rattle.state.specs.Shape.{isEmpty}
 use Rattle.shape.specs.Facts.{SoundIn}
@@ -132,7 +132,9 @@ pub marked-changed : (s : State) (b : Block) → Bare s b → (i e : ℕ) → i 
 unfolding marked
 marked-changed s b q i e h l room =
     picked (λ (c : Block). Changed s b c (b .used + (e - i)) false) (eqb (b .used + (e - i)) (b .area)) _ _
-    (λ t. numbers-used s b q _ (b .used + (e - i)) (b .area) 0 0 room (omega arith) (omega arith) (omega arith) (full-flags (b .flags) (q .flags) .1) (full-flags (b .flags) (q .flags) .0) (omega arith))
+    (λ t.
+    let w = full-flags (b .flags) (q .flags) in
+    numbers-used s b q _ (b .used + (e - i)) (b .area) 0 0 room (omega arith) (omega arith) (omega arith) (w .1) (w .0) (omega arith))
     (λ t.
     numbers-used s b q _ (b .used + (e - i)) (moved (b .start) i e) (moved (b .end) e i) (b .largest) room (moved-le (b .start) i e (b .area) (q .start) l)
     (moved-le (b .end) e i (b .area) (q .end) (omega arith)) (q .largest) (part-flags (b .flags) (q .flags) .1) (part-flags (b .flags) (q .flags) .0) (omega arith))
@@ -140,12 +142,14 @@ marked-changed s b q i e h l room =
 -- ---- units made free
 pub emptied-changed : (s : State) (b : Block) → Bare s b → Changed s b (emptied b) 0 true
 emptied-changed s b q =
-    numbers-empty s b q _ 0 0 (b .area) (b .area) (omega arith) (omega arith) (omega arith) (omega arith) (emptied-flags (b .flags) (q .flags) .1) (emptied-flags (b .flags) (q .flags) .0) refl
+    let w = emptied-flags (b .flags) (q .flags) in
+    numbers-empty s b q _ 0 0 (b .area) (b .area) (omega arith) (omega arith) (omega arith) (omega arith) (w .1) (w .0) refl
 
 pub widened-changed : (s : State) (b : Block) → SoundIn s b → (i e : ℕ) → i < e → e ≤ b .area → 0 < b .used - (e - i) → Changed s b (widened b i e) (b .used - (e - i)) false
 widened-changed s b q i e h l pos =
     let w = widened-flags (b .flags) (q .flags) in
-    numbers-used s b (bare s b q) _ (b .used - (e - i)) (min (b .start) i) (max (b .end) e) (b .largest) (omega (arith, q .used)) (omega (arith, q .start)) (omega (arith, q .end)) (q .largest) (w .1)
+    numbers-used s b (bare s b q) _ (b .used - (e - i)) (min (b .start) i) (max (b .end) e) (b .largest)
+    (omega (arith, q .used)) (omega (arith, q .start)) (omega (arith, q .end)) (q .largest) (w .1)
     (w .0 ∙ not-empty (isEmpty b) (λ t. omega (arith, q .empty-unused t))) pos
   where
     not-empty : (c : Bool) → (c ≡ true → ⊥) → c ≡ false

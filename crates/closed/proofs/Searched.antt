@@ -1,7 +1,7 @@
 -- A search changes only the blocks' windows, largest fields and dirty flags: the rest of the record is as it was. Assumes nothing.
-use Prim.Native.Nat.{ℕ, zero, suc, _+_}
+use Prim.Native.Nat.{ℕ, zero, suc}
 use mathlib.Core.List.{List}
-use mathlib.Core.Path.{_≡_, refl, sym, ap}
+use mathlib.Core.Path.{_≡_, refl}
 use Rattle.block.specs.declared.Looked.{Looked}
 use Rattle.block.specs.declared.Looked.the-variants.{Found as found, Missed as missed}
 use Rattle.block.specs.Search.{lookInto}

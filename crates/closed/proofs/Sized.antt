@@ -1,13 +1,13 @@
 -- The record's lists keep their lengths, whatever the call. Assumes nothing.
-use Prim.Native.Nat.{ℕ, zero, suc, _+_, _-_, _*_}
+use Prim.Native.Nat.{ℕ, zero, suc, _+_, _-_}
 use mathlib.Core.Bool.{true, false}
 use mathlib.Core.List.{List}
-use mathlib.Core.Path.{_≡_, refl, _∙_}
-use lib.ListN.{length, length-set}
+use mathlib.Core.Path.{refl, _∙_}
+use lib.ListN.{length-set}
 use Rattle.block.specs.declared.Block.{Block}
 use Rattle.block.specs.declared.Looked.{Looked}
 use Rattle.block.specs.declared.Looked.the-variants.{Found as found, Missed as missed}
-use Rattle.block.specs.Marking.{emptied, fresh, marked, markReleased, markShrunk}
+use Rattle.block.specs.Marking.{emptied, marked, markReleased, markShrunk}
 use Rattle.block.specs.Search.{lookInto}
 use Rattle.sizes.specs.declared.Pool.{Pool}
 use Rattle.sizes.proofs.Cases.{picked}
@@ -58,7 +58,9 @@ sized-keep s z b = sized-pool (inserted s (emptied b)) (sized-inserted s z (empt
 pub sized-kept-blocks : (s : State) (n : ℕ) → Sized (kept s n)
 unfolding kept
 sized-kept-blocks s zero = sized-empty s
-sized-kept-blocks s (suc n) = picked Sized (oldest s n) (keep (kept s n) (blockAt s n)) (kept s n) (λ e. sized-keep (kept s n) (sized-kept-blocks s n) (blockAt s n)) (λ e. sized-kept-blocks s n)
+sized-kept-blocks s (suc n) =
+    picked Sized (oldest s n) (keep (kept s n) (blockAt s n)) (kept s n)
+    (λ e. sized-keep (kept s n) (sized-kept-blocks s n) (blockAt s n)) (λ e. sized-kept-blocks s n)
 
 -- ---- a search
 after-sized : (s : State) → Sized s → (i : ℕ) (rest : State → Searched) → ((r : State) → Sized r → Sized (rest r .state)) → (l : Looked) → Sized (after s i rest l .state)
@@ -103,7 +105,9 @@ module _ (s : State) (u t : List ℕ) (z : Sized s) where
       alloc-cases Left s u t (λ why. z) size
       (λ bytes k. sized-search s z u (poolFor s bytes) (unitsFor s bytes))
       (λ bytes j i k e. marked-sized (searchFor s u bytes .state) (sized-search s z u (poolFor s bytes) (unitsFor s bytes)) u t j i (unitsFor s bytes))
-      (λ bytes at slot k m. marked-sized (inserted (searchFor s u bytes .state) _) (sized-inserted (searchFor s u bytes .state) (sized-search s z u (poolFor s bytes) (unitsFor s bytes)) _) u t (searchFor s u bytes .state .count) 0 (unitsFor s bytes))
+      (λ bytes at slot k m.
+      let r = searchFor s u bytes .state in
+      marked-sized (inserted r _) (sized-inserted r (sized-search s z u (poolFor s bytes) (unitsFor s bytes)) _) u t (r .count) 0 (unitsFor s bytes))
   sized-kept (release a) = released a
   sized-kept (shrink a size) =
       shrink-cases Left s u t (λ why. z) a size (released a) (λ j i e n k. z)

@@ -1,7 +1,7 @@
 -- What a soft reset keeps: each pool's oldest block, as at used count 0, in the order of their ages. Assumes nothing.
 use Prim.Native.Nat.{ℕ, zero, suc, _+_, _≤_, _<_}
-use mathlib.Core.Bool.{Bool, true, false}
-use mathlib.Core.Path.{_≡_, refl, sym, ap, subst, _∙_}
+use mathlib.Core.Bool.{true, false}
+use mathlib.Core.Path.{_≡_, refl, sym, ap, _∙_}
 use native.Mathlib.Omega.{arith}
 use borrow.Author.Tests.{eq-eqb, ne-eqb}
 use lib.Dec.{eqb}
@@ -14,7 +14,7 @@ use Rattle.state.specs.declared.State.{State}
 use Rattle.state.specs.Table.{blockAt, sum}
 use Rattle.state.proofs.Tests.{sum-same}
 use Rattle.shape.proofs.Pigeon.{sum-none}
-use Rattle.rules.specs.Reset.{emptyTable, oldest, keep, kept}
+use Rattle.rules.specs.Reset.{oldest, keep, kept}
 use Rattle.closed.specs.Sized.{Sized}
 use Rattle.closed.proofs.After.{inserted-new, inserted-old}
 use Rattle.closed.proofs.Sized.{sized-kept-blocks}

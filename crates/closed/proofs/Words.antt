@@ -10,14 +10,13 @@ use Rattle.bits.proofs.Fill.{length-filled}
 use Rattle.slots.specs.Slots.{slotOf, fillSlot}
 use Rattle.slots.proofs.Laws.{length-slot, length-put-slot}
 use Rattle.block.specs.declared.Block.{Block}
-use Rattle.block.specs.Marking.{fresh, released, markReleased}
+use Rattle.block.specs.Marking.{fresh, markReleased}
 use Rattle.numbers.specs.Units.{unitsOf}
 use Rattle.state.specs.declared.State.{State}
 use Rattle.state.specs.declared.Hit.the-variants.{At}
 use Rattle.state.specs.Table.{blockAt, poolAt}
 use Rattle.state.specs.Shape.{goodShape}
 use Rattle.state.specs.Change.{inserted}
-use Rattle.shape.specs.Shaped.{Shaped}
 use Rattle.shape.proofs.Shaped.{shaped-is}
 use Rattle.facts.proofs.Facts.{slot-room, found-in}
 use Rattle.facts.proofs.Room.{slot-is, room-left}
@@ -48,7 +47,7 @@ abbrev pub Long : List ℕ → List ℕ → Turn → Type 0
 Long u t x = (length (x .used) ≡ length u) × (length (x .stop) ≡ length t)
 
 -- a slot lies in both maps
-abbrev Room : ℕ → ℕ → List ℕ → List ℕ → Type 0
+abbrev pub Room : ℕ → ℕ → List ℕ → List ℕ → Type 0
 Room w slot u t = ((slot + 1) * w ≤ length u) × ((slot + 1) * w ≤ length t)
 
 pub mark-long : (s : State) (u t : List ℕ) (j i n : ℕ) → Room (s .w) (blockAt s j .slot) u t → Long u t (markTurn s u t j i n)
@@ -94,7 +93,8 @@ module _ (s : State) (u t : List ℕ) (z : Sized s) where
       let v = length-fill-slot (s .w) (blockAt s j .slot) u i (e - i) 0 (room .0) in
       let w = length-fill-slot (s .w) (blockAt s j .slot) t (e - 1) 1 0 (room .1) in
       let slot : blockAt r j .slot ≡ blockAt s j .slot =
-      ap (λ (b : Block). b .slot) (less-block s z j (m .block) (e - i) (omega (arith, h, f .head .count-slots, f .head .slots-high))) ∙ released-stays (blockAt s j) i e .slot in
+      ap (λ (b : Block). b .slot) (less-block s z j (m .block) (e - i) (omega (arith, h, f .head .count-slots, f .head .slots-high)))
+      ∙ released-stays (blockAt s j) i e .slot in
       let kept : Room (s .w) (blockAt s j .slot) (m .used) (m .stop) = (omega (arith, v, room .0), omega (arith, w, room .1)) in
       let c = clear-long (s .w) (blockAt r j .slot) (m .used) (m .stop) (subst (λ (n : ℕ). Room (s .w) n (m .used) (m .stop)) (sym slot) kept) in
       settle-cases (Long u t) r (m .used) (m .stop) _ j (λ n. (v, w)) (λ n g. (c .0 ∙ v, c .1 ∙ w)) (λ n g h. (v, w))
