@@ -125,7 +125,7 @@ fn put(p: usize, index: usize) {
 fn index_of(p: usize, index: usize, value: bool) {
     if index < 96 {
         let words = pattern(p);
-        number(bits::bit_vector_index_of(&words, index, value) as u64);
+        number(index::bit_vector_index_of(&words, index, value) as u64);
     }
 }
 

@@ -1,9 +1,8 @@
-// One block: its record, and what marking does to it and to its parts of the two maps. `JitAllocatorBlock` in the Rust.
+// One block's record, and what marking does to it. `JitAllocatorBlock` in the Rust.
 ghost use mathlib.Core.Path.{_≡_};
 ghost use Prim.Native.Nat.{_+_, _-_, _<_, _≤_, min, max};
-ghost use lib.ListN.{length};
-ghost use Rattle.block.specs.Record.{Placed, SpanIn};
-ghost use Rattle.block.specs.Marking.{moved, marked, released, shrunk, fresh, painted, markAllocated, markReleased, markShrunk};
+ghost use Rattle.block.specs.Record.{SpanIn};
+ghost use Rattle.block.specs.Marking.{moved, marked, released, shrunk, fresh};
 
 // A block of `area` units from address `base` on. Its maps are the words of slot `slot`. `start` and `end` are its search window,
 // `largest` the longest free run that a search has seen.
@@ -47,7 +46,7 @@ fn moved_edge(edge: u32, own: u32, other: u32) -> u32
 }
 
 // The record once the units from `from` up to `to` are a span.
-fn marked_record(b: Block, from: u32, to: u32) -> Block
+pub fn marked_record(b: Block, from: u32, to: u32) -> Block
     requires { ⌜ SpanIn b from to × (b .used + (to - from) ≤ b .area) ⌝ }
     ensures { λ r. ⌜ r ≡ marked b from to ⌝ }
 {
@@ -69,7 +68,7 @@ fn marked_record(b: Block, from: u32, to: u32) -> Block
 }
 
 // The record once the span from `from` up to `to` is gone.
-fn released_record(b: Block, from: u32, to: u32) -> Block
+pub fn released_record(b: Block, from: u32, to: u32) -> Block
     requires { ⌜ SpanIn b from to × (to - from ≤ b .used) ⌝ }
     ensures { λ r. ⌜ r ≡ released b from to ⌝ }
 {
@@ -90,7 +89,7 @@ fn released_record(b: Block, from: u32, to: u32) -> Block
 }
 
 // The record once the tail from `from` up to `to` is cut off a span.
-fn shrunk_record(b: Block, from: u32, to: u32) -> Block
+pub fn shrunk_record(b: Block, from: u32, to: u32) -> Block
     requires { ⌜ SpanIn b from to × (to - from ≤ b .used) ⌝ }
     ensures { λ r. ⌜ r ≡ shrunk b from to ⌝ }
 {
@@ -119,61 +118,6 @@ pub fn new_block(base: u64, size: u64, pool: usize, slot: usize, area: u32, n: u
         end: area,
         largest: area - n,
     }
-}
-
-// The units from `from` up to `to` become a span: used bits on, and the stop bit on at the last one.
-pub fn mark_allocated_area(
-    b: Block,
-    used: &mut [u32],
-    stop: &mut [u32],
-    w: usize,
-    from: u32,
-    to: u32,
-) -> Block
-    requires { ⌜ Placed b w (length (now used)) (length (now stop)) × SpanIn b from to × (b .used + (to - from) ≤ b .area) ⌝ }
-    ensures { λ r. ⌜ painted r (now (used .exit)) (now (stop .exit)) ≡ markAllocated w b from to (now (used .entry)) (now (stop .entry)) ⌝ }
-{
-    let slot = b.slot;
-    slots::mark(used, slot, w, from as usize, (to - from) as usize);
-    slots::mark(stop, slot, w, (to - 1) as usize, 1);
-    marked_record(b, from, to)
-}
-
-// The span from `from` up to `to` goes: used bits off, and the last stop bit off.
-pub fn mark_released_area(
-    b: Block,
-    used: &mut [u32],
-    stop: &mut [u32],
-    w: usize,
-    from: u32,
-    to: u32,
-) -> Block
-    requires { ⌜ Placed b w (length (now used)) (length (now stop)) × SpanIn b from to × (to - from ≤ b .used) ⌝ }
-    ensures { λ r. ⌜ painted r (now (used .exit)) (now (stop .exit)) ≡ markReleased w b from to (now (used .entry)) (now (stop .entry)) ⌝ }
-{
-    let slot = b.slot;
-    slots::unmark(used, slot, w, from as usize, (to - from) as usize);
-    slots::unmark(stop, slot, w, (to - 1) as usize, 1);
-    released_record(b, from, to)
-}
-
-// The tail from `from` up to `to` of a span goes: its used bits and the old stop bit off, a stop bit on at the new last unit.
-pub fn mark_shrunk_area(
-    b: Block,
-    used: &mut [u32],
-    stop: &mut [u32],
-    w: usize,
-    from: u32,
-    to: u32,
-) -> Block
-    requires { ⌜ Placed b w (length (now used)) (length (now stop)) × SpanIn b from to × (to - from ≤ b .used) × (0 < from) ⌝ }
-    ensures { λ r. ⌜ painted r (now (used .exit)) (now (stop .exit)) ≡ markShrunk w b from to (now (used .entry)) (now (stop .entry)) ⌝ }
-{
-    let slot = b.slot;
-    slots::unmark(used, slot, w, from as usize, (to - from) as usize);
-    slots::unmark(stop, slot, w, (to - 1) as usize, 1);
-    slots::mark(stop, slot, w, (from - 1) as usize, 1);
-    shrunk_record(b, from, to)
 }
 
 // What a look for free units in one block comes to: the lowest place; or the block as it is from then on, its window tightened if the search

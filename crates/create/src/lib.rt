@@ -80,8 +80,8 @@ fn fresh_state(
 ) -> State
     ensures { λ r. ⌜ r ≡ freshState (asked size g flags w arena length) slots ⌝ }
 {
-    let unit = sizes::granularity_in_force(g);
-    let base = sizes::base_size_in_force(size);
+    let unit = limits::granularity_in_force(g);
+    let base = limits::base_size_in_force(size);
     let pools = pools_asked(flags);
     let immediate = immediate_asked(flags);
     State {

@@ -37,7 +37,7 @@ pub fn mark_span(s: State, used: &mut [u32], stop: &mut [u32], j: usize, i: u32,
     let address = b.base + offset;
     pool.empty = pool.empty - one_if_empty(b);
     pool.used = pool.used + n;
-    let marked = block::mark_allocated_area(b, used, stop, s.w, i, i + n);
+    let marked = mark::mark_allocated_area(b, used, stop, s.w, i, i + n);
     let mut r = s;
     r.blocks[j] = marked;
     r.pool[p] = pool;

@@ -38,7 +38,7 @@ pub fn new_span(
     requires { ⌜ Makes s (length (now used)) (length (now stop)) p n bytes ⌝ }
     ensures { λ r. ⌜ turn (r .answer) (r .state) (now (used .exit)) (now (stop .exit)) ≡ newTurn s (now (used .entry)) (now (stop .entry)) p n bytes ⌝ }
 {
-    let place = table::lowest_place(s, bytes);
+    let place = place::lowest_place(s, bytes);
     let Place::Address(at) = place else {
         return state::refused(s, Refusal::NoMapping);
     };

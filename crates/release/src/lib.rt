@@ -27,7 +27,7 @@ fn free(s: State, used: &mut [u32], stop: &mut [u32], j: usize, i: u32, e: u32) 
         (markReleased (s .w) (blockAt s j) i e (now (used .entry)) (now (stop .entry)) .stop) j) ⌝ }
 {
     let b = s.blocks[j];
-    let less = block::mark_released_area(b, used, stop, s.w, i, e);
+    let less = mark::mark_released_area(b, used, stop, s.w, i, e);
     let mut r = settle::less_used(s, j, less, e - i);
     r.live = s.live - 1;
     settle::settle(r, used, stop, j)

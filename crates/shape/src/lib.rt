@@ -42,10 +42,10 @@ pub fn arena_ok(base: u64, length: u64) -> bool
 fn numbers_ok(s: State) -> bool
     ensures { λ r. ⌜ r ≡ numbersOk s ⌝ }
 {
-    if !sizes::is_base_size(s.size) {
+    if !limits::is_base_size(s.size) {
         return false;
     }
-    if !sizes::is_granularity(s.g) {
+    if !limits::is_granularity(s.g) {
         return false;
     }
     if s.pools != 1 {

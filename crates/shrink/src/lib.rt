@@ -29,7 +29,7 @@ fn cut_off(s: State, used: &mut [u32], stop: &mut [u32], j: usize, from: u32, to
         (markShrunk (s .w) (blockAt s j) from to (now (used .entry)) (now (stop .entry)) .stop)) ⌝ }
 {
     let b = s.blocks[j];
-    let less = block::mark_shrunk_area(b, used, stop, s.w, from, to);
+    let less = mark::mark_shrunk_area(b, used, stop, s.w, from, to);
     settle::less_used(s, j, less, to - from)
 }
 

@@ -14,7 +14,7 @@ fn line_end() {
 fn granularity(asked: u32) {
     io::write_all(1, b"granularity");
     number(asked as u64);
-    number(sizes::granularity_in_force(asked));
+    number(limits::granularity_in_force(asked));
     line_end();
 }
 
@@ -22,7 +22,7 @@ fn granularity(asked: u32) {
 fn base(asked: u32) {
     io::write_all(1, b"base");
     number(asked as u64);
-    number(sizes::base_size_in_force(asked));
+    number(limits::base_size_in_force(asked));
     line_end();
 }
 

@@ -37,7 +37,7 @@ fn held_at(used: &[u32], stop: &[u32], area: u32, unit: u32) -> Held
     if !is_start(used, stop, at) {
         return Held::NoSpan;
     }
-    let last = bits::bit_vector_index_of(stop, at, true);
+    let last = index::bit_vector_index_of(stop, at, true);
     if (area as usize) <= last {
         return Held::NoStop;
     }

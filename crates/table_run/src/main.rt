@@ -174,7 +174,7 @@ fn place(s: State, size: u64)
         if size < 4294967296 {
             io::write_all(1, b"place");
             number(size);
-            placed(table::lowest_place(s, size));
+            placed(place::lowest_place(s, size));
         }
     }
 }

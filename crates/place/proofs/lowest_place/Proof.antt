@@ -5,10 +5,10 @@ use mathlib.Core.Path.{_≡_, refl, sym, ap, subst, _∙_}
 use native.Mathlib.Omega.{arith}
 use borrow.Author.Needs.{needs}
 use lib.Dec.{lit<}
 use Rattle.table.specs.Ordered.{Arranged}
 use Rattle.table.proofs.Place.{Above, above, Passed, passed-none, passed-more, place-gap, place-last, place-none}
-use Rattle.table.proofs.lowest_place.Statement.{statement}
-use Rattle.table.proofs.lowest_place.Tie as tie
+use Rattle.place.proofs.lowest_place.Statement.{statement}
+use Rattle.place.proofs.lowest_place.Tie as tie
 
 abbrev Inv-loop : tie.InvT-loop
 Inv-loop size s at₀ k₀ at k = (k ≤ s .count) × ((r : Arranged s) → Passed s r size k at)

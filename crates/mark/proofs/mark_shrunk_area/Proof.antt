@@ -1,12 +1,12 @@
 use mathlib.Core.Path.{_≡_, ap, ap₂, _∙_}
 use Rattle.block.specs.declared.Block.{Block}
 use Rattle.block.specs.Marking.{Painted, painted, shrunk}
 use Prim.Native.Nat.{ℕ, _-_}
 use mathlib.Core.List.{List}
 use Rattle.slots.specs.Slots.{fillSlot}
 use borrow.Author.Needs.{needs}
-use Rattle.block.proofs.mark_shrunk_area.Statement.{statement}
-use Rattle.block.proofs.mark_shrunk_area.Tie as tie
+use Rattle.mark.proofs.mark_shrunk_area.Statement.{statement}
+use Rattle.mark.proofs.mark_shrunk_area.Tie as tie
 
 sub-unmark : tie.Need-sub-unmark
 sub-unmark c = search needs

@@ -5,11 +5,11 @@ use borrow.Author.Needs.{needs}
 use mir.Val.{boolByte}
 use lib.ListN.{length, getD}
 use lib.Count.{trailing-le}
 use Rattle.bits.proofs.Digits.{tz-lt}
 use Rattle.bits.specs.Walk.{Seen}
 use Rattle.bits.proofs.Find.{seen-word, seen-first, seen-none, found-none, found-one}
-use Rattle.bits.proofs.bit_vector_index_of.Statement.{statement}
-use Rattle.bits.proofs.bit_vector_index_of.Tie as tie
+use Rattle.index.proofs.bit_vector_index_of.Statement.{statement}
+use Rattle.index.proofs.bit_vector_index_of.Tie as tie
 
 abbrev Inv-loop : tie.InvT-loop
 Inv-loop buf start value vec-index₀ bit-index bits₀ vec-index bits =

@@ -1,8 +1,8 @@
 -- `granularity_in_force` meets its contract. Assumes nothing.
 use borrow.Author.Needs.{needs}
 use Rattle.sizes.specs.Limits.{granularityInForce}
-use Rattle.sizes.proofs.granularity_in_force.Statement.{statement}
-use Rattle.sizes.proofs.granularity_in_force.Tie as tie
+use Rattle.limits.proofs.granularity_in_force.Statement.{statement}
+use Rattle.limits.proofs.granularity_in_force.Tie as tie
 
 is-granularity-requires : tie.Need-is-granularity-requires
 is-granularity-requires c κs = search needs

@@ -3,9 +3,9 @@ use mathlib.Core.Path.{_∙_}
 use mathlib.Core.Bool.{and-true, and-false}
 use borrow.Author.Needs.{needs}
 use borrow.Author.Tests.{lt-leb, le-leb}
 use Rattle.sizes.specs.Limits.{isBaseSize}
-use Rattle.sizes.proofs.is_base_size.Statement.{statement}
-use Rattle.sizes.proofs.is_base_size.Tie as tie
+use Rattle.limits.proofs.is_base_size.Statement.{statement}
+use Rattle.limits.proofs.is_base_size.Tie as tie
 
 returns : tie.Need-returns
 unfolding isBaseSize

@@ -4,9 +4,9 @@ use mathlib.Core.Bool.{_||_}
 use mathlib.Core.Logic.{⊎-elim}
 use lib.Dec.{eqb}
 use borrow.Author.Tests.{eq-eqb, ne-eqb}
 use Rattle.sizes.specs.Limits.{isGranularity}
-use Rattle.sizes.proofs.is_granularity.Statement.{statement}
-use Rattle.sizes.proofs.is_granularity.Tie as tie
+use Rattle.limits.proofs.is_granularity.Statement.{statement}
+use Rattle.limits.proofs.is_granularity.Tie as tie
 
 -- the first two tests
 joined : (c : tie.Joined1) → c .if1 .if2 ≡ (eqb (c .before .args .g) 64 || eqb (c .before .args .g) 128)

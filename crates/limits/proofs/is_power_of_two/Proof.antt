@@ -1,9 +1,9 @@
 -- `is_power_of_two` meets its contract. Assumes nothing.
 use native.Mathlib.Omega.{arith}
 use borrow.Author.Needs.{needs}
 use Rattle.sizes.proofs.Powers.{mask-test}
-use Rattle.sizes.proofs.is_power_of_two.Statement.{statement}
-use Rattle.sizes.proofs.is_power_of_two.Tie as tie
+use Rattle.limits.proofs.is_power_of_two.Statement.{statement}
+use Rattle.limits.proofs.is_power_of_two.Tie as tie
 
 sub-result : tie.Need-sub-result
 sub-result c = search needs

@@ -1,6 +1,6 @@
 use borrow.Author.Needs.{needs}
-use Rattle.block.proofs.mark_allocated_area.Statement.{statement}
-use Rattle.block.proofs.mark_allocated_area.Tie as tie
+use Rattle.mark.proofs.mark_allocated_area.Statement.{statement}
+use Rattle.mark.proofs.mark_allocated_area.Tie as tie
 
 sub-mark : tie.Need-sub-mark
 sub-mark c = search needs

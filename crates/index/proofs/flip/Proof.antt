@@ -1,8 +1,8 @@
 use borrow.Author.Needs.{needs}
 use mathlib.Core.Path.{sym, ap}
 use Rattle.bits.specs.Walk.{flipped}
-use Rattle.bits.proofs.flip.Statement.{statement}
-use Rattle.bits.proofs.flip.Tie as tie
+use Rattle.index.proofs.flip.Statement.{statement}
+use Rattle.index.proofs.flip.Tie as tie
 
 returns : tie.Need-returns
 returns c = search needs

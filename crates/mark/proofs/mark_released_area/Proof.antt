@@ -1,6 +1,6 @@
 use borrow.Author.Needs.{needs}
-use Rattle.block.proofs.mark_released_area.Statement.{statement}
-use Rattle.block.proofs.mark_released_area.Tie as tie
+use Rattle.mark.proofs.mark_released_area.Statement.{statement}
+use Rattle.mark.proofs.mark_released_area.Tie as tie
 
 sub-unmark : tie.Need-sub-unmark
 sub-unmark c = search needs

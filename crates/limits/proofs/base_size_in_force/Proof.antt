@@ -1,8 +1,8 @@
 -- `base_size_in_force` meets its contract. Assumes nothing.
 use borrow.Author.Needs.{needs}
 use Rattle.sizes.specs.Limits.{baseSizeInForce}
-use Rattle.sizes.proofs.base_size_in_force.Statement.{statement}
-use Rattle.sizes.proofs.base_size_in_force.Tie as tie
+use Rattle.limits.proofs.base_size_in_force.Statement.{statement}
+use Rattle.limits.proofs.base_size_in_force.Tie as tie
 
 is-base-size-requires : tie.Need-is-base-size-requires
 is-base-size-requires c κs = search needs
