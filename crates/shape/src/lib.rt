@@ -1,13 +1,12 @@
-// The parts of the test for refusal 5, BadShape: the numbers in the record, one block, and a pool's sums. They take any numbers: no sum wraps, whatever
-// the record holds.
+// Parts of the test for refusal 5, BadShape: the numbers in the record, a record of zeros, and a pool's sums. They take any numbers: no sum wraps,
+// whatever the record holds.
 use block::Block;
 use sizes::Pool;
 use state::State;
 ghost use mathlib.Core.Path.{_≡_};
-ghost use Prim.Native.Nat.{_≤_};
 ghost use Rattle.state.specs.Table.{one};
-ghost use Rattle.state.specs.Shape.{arenaOk, numbersOk, isEmpty, emptyOk, isZero};
-ghost use Rattle.shape.specs.Parts.{headOk, blockOk, samePool, poolLike, counted};
+ghost use Rattle.state.specs.Shape.{arenaOk, numbersOk, isEmpty, isZero};
+ghost use Rattle.shape.specs.Parts.{headOk, samePool, poolLike, counted};
 ghost use Rattle.shape.specs.Facts.{Countable};
 
 // 2^48, where the arena ends at the latest
@@ -90,81 +89,10 @@ pub fn head_ok(s: State, used: usize, stop: usize) -> bool
 
 // ---- one block
 
-fn is_empty(b: Block) -> bool
+pub fn is_empty(b: Block) -> bool
     ensures { λ r. ⌜ r ≡ isEmpty b ⌝ }
 {
     b.flags & Block::FLAG_EMPTY != 0
-}
-
-fn empty_ok(b: Block) -> bool
-    ensures { λ r. ⌜ r ≡ emptyOk b ⌝ }
-{
-    if is_empty(b) {
-        return b.used == 0;
-    }
-    b.used != 0
-}
-
-// All that is asked of one block by itself. `size` is taken from `length` only where it is not larger.
-pub fn block_ok(
-    b: Block,
-    g: u64,
-    pools: usize,
-    w: usize,
-    slots: usize,
-    arena: u64,
-    length: u64,
-) -> bool
-    requires { ⌜ (g ≤ 256) × (w ≤ 16384) ⌝ }
-    ensures { λ r. ⌜ r ≡ blockOk g pools w slots arena length b ⌝ }
-{
-    if b.slot >= slots {
-        return false;
-    }
-    if b.pool >= pools {
-        return false;
-    }
-    if b.base % 65536 != 0 {
-        return false;
-    }
-    if b.area == 0 {
-        return false;
-    }
-    if b.area % 32 != 0 {
-        return false;
-    }
-    let area = b.area as u64;
-    if area > 32 * w as u64 {
-        return false;
-    }
-    if area * g != b.size {
-        return false;
-    }
-    if b.used > b.area {
-        return false;
-    }
-    if b.start > b.area {
-        return false;
-    }
-    if b.end > b.area {
-        return false;
-    }
-    if b.largest > b.area {
-        return false;
-    }
-    if b.base < arena {
-        return false;
-    }
-    if b.size > length {
-        return false;
-    }
-    if b.base - arena > length - b.size {
-        return false;
-    }
-    if b.flags > Block::FLAG_EMPTY + Block::FLAG_DIRTY {
-        return false;
-    }
-    empty_ok(b)
 }
 
 pub fn is_zero(b: Block) -> bool

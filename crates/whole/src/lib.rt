@@ -18,7 +18,7 @@ fn table_ok(s: State) -> bool
     let mut i: usize = 0;
     while i < s.count {
         let b = s.blocks[i];
-        if !shape::block_ok(b, s.g, s.pools, s.w, s.slots, s.arena, s.length) {
+        if !sound::block_ok(b, s.g, s.pools, s.w, s.slots, s.arena, s.length) {
             return false;
         }
         let slot = b.slot;

@@ -1,4 +1,4 @@
--- `shape::block_ok` meets its contract: each refusal fails the test of its own, and the two differences say what the definition's sums say. Assumes nothing.
+-- `sound::block_ok` meets its contract: each refusal fails the test of its own, and the two differences say what the definition's sums say. Assumes nothing.
 use Prim.Native.Nat.{_+_, _*_, _%_}
 use mathlib.Core.Path.{sym, _∙_}
 use mathlib.Core.Bool.{and-true}
@@ -7,11 +7,11 @@ use borrow.Author.Tests.{lt-ltb, le-ltb, le-leb, lt-leb, eq-eqb, ne-eqb}
 use lib.Dec.{eqb}
 use native.Mathlib.Nat.{mul-le-mul}
 use Rattle.state.proofs.Tests.{every-fails}
 use Rattle.shape.specs.Parts.{blockTests, blockOk}
 use Rattle.shape.proofs.Bools.{not-of-true}
 use borrow.Author.Needs.{needs}
-use Rattle.shape.proofs.block_ok.Statement.{statement}
-use Rattle.shape.proofs.block_ok.Tie as tie
+use Rattle.sound.proofs.block_ok.Statement.{statement}
+use Rattle.sound.proofs.block_ok.Tie as tie
 
 returns : tie.Need-returns
 unfolding blockOk

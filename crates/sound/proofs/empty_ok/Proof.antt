@@ -1,8 +1,8 @@
--- `shape::empty_ok` meets its contract, by the flag. Assumes nothing.
+-- `sound::empty_ok` meets its contract, by the flag. Assumes nothing.
 use mathlib.Core.Path.{sym}
 use borrow.Author.Needs.{needs}
-use Rattle.shape.proofs.empty_ok.Statement.{statement}
-use Rattle.shape.proofs.empty_ok.Tie as tie
+use Rattle.sound.proofs.empty_ok.Statement.{statement}
+use Rattle.sound.proofs.empty_ok.Tie as tie
 
 is-empty-requires : tie.Need-is-empty-requires
 is-empty-requires c κs = search needs
