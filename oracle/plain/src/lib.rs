@@ -2,8 +2,10 @@
 //!
 //! No windows, no dirty flag, no largest-run field, no stored counts: every block is walked from unit 0, and
 //! what has to be known is counted. The functions stand in the document's order, and a comment in quotation
-//! marks is its sentence. States that no trace reaches (refusal 6, a bad shape) have no place here.
+//! marks is its sentence. States that no trace reaches (refusal 6, a bad shape) have no place here: `states`
+//! has the record as it is stored, with every number that 01 names, and plays calls on any such record.
 
+pub mod states;
 pub mod trace;
 
 // ---------------------------------------------------------------------------------------------- Numbers
@@ -23,6 +25,7 @@ pub const TOO_LARGE: u32 = 2;
 pub const INVALID_STATE: u32 = 3;
 pub const NO_MAPPING: u32 = 4;
 pub const BAD_SHAPE: u32 = 5;
+pub const DAMAGED: u32 = 6;
 
 /// A refusal's number.
 pub type Refusal = u32;
@@ -75,8 +78,8 @@ fn base_size(asked: u32) -> u64 {
 }
 
 /// "Slots: the smaller of 64 and the whole slots of W in the shorter slice."
-fn slots(slot_words: u32) -> u32 {
-    (MAP_WORDS / slot_words).min(64)
+fn slots(slot_words: u32, shorter: u32) -> u32 {
+    (shorter / slot_words).min(64)
 }
 
 /// "base and length non-zero multiples of 65,536, base plus length at most 2^48"
@@ -88,15 +91,53 @@ fn is_arena(base: u64, length: u64) -> bool {
         && u128::from(base) + u128::from(length) <= ARENA_END
 }
 
+/// "It is refused (1) ... if W, the slots (none) or the arena break these rules."
+fn is_creation(asked: &Asked, shorter: u32) -> bool {
+    // "Slot words W: 1 to 16,384."
+    (1..=16_384).contains(&asked.slot_words)
+        && slots(asked.slot_words, shorter) != 0
+        && is_arena(asked.arena_base, asked.arena_length)
+}
+
+/// "Size. Round up to g; rounding up wraps at the top of 64 bits. Zero is refusal 1. Above 2,147,483,647 is
+/// refusal 2."
+fn rounded_size(asked: u64, granularity: u64) -> Result<u64, Refusal> {
+    // Where there is no next multiple in 64 bits, it is 2^64 itself.
+    match asked.checked_next_multiple_of(granularity).unwrap_or(0) {
+        0 => Err(INVALID_ARGUMENT),
+        rounded @ 1..=2_147_483_647 => Ok(rounded),
+        _ => Err(TOO_LARGE),
+    }
+}
+
+/// "Pool. One pool: 0. Three: pool 2 if the rounded size is a multiple of 4g, else 1 if of 2g, else 0."
+fn pool_of(size: u64, granularity: u64, pools: u64) -> usize {
+    if pools == 1 {
+        0
+    } else if size % (4 * granularity) == 0 {
+        2
+    } else if size % (2 * granularity) == 0 {
+        1
+    } else {
+        0
+    }
+}
+
+/// The size of a block for a request, from "the size of the pool's newest block, or the base size if there is
+/// none".
+fn new_block_size(start: u64, request: u64) -> u64 {
+    // "double it if it is below 33,554,432."
+    let size = if start < MAX_BLOCK_SIZE { 2 * start } else { start };
+    // "If the rounded request is larger, apply `align_up` with that size as the alignment. That is a bit
+    // mask, not a true multiple for 786,432."
+    if request > size { (request + (size - 1)) & !(size - 1) } else { size }
+}
+
 impl Allocator {
     /// "Creation ... makes no block. It is refused (1), with nothing written, if W, the slots (none) or the
     /// arena break these rules."
     pub fn create(asked: &Asked) -> Result<Allocator, Refusal> {
-        // "Slot words W: 1 to 16,384."
-        if asked.slot_words < 1 || asked.slot_words > 16_384 {
-            return Err(INVALID_ARGUMENT);
-        }
-        if slots(asked.slot_words) == 0 || !is_arena(asked.arena_base, asked.arena_length) {
+        if !is_creation(asked, MAP_WORDS) {
             return Err(INVALID_ARGUMENT);
         }
         Ok(Allocator {
@@ -106,7 +147,7 @@ impl Allocator {
             pools: if asked.flags & 1 == 1 { 3 } else { 1 },
             immediate_release: asked.flags & 2 == 2,
             slot_words: asked.slot_words as usize,
-            slots: slots(asked.slot_words) as usize,
+            slots: slots(asked.slot_words, MAP_WORDS) as usize,
             arena_base: asked.arena_base,
             arena_length: asked.arena_length,
             blocks: Vec::new(),
@@ -116,8 +157,8 @@ impl Allocator {
     // ------------------------------------------------------------------------- Rules of the bookkeeping
 
     pub fn alloc(&mut self, asked: u64) -> Result<Bytes, Refusal> {
-        let size = self.size(asked)?;
-        let pool = self.pool(size);
+        let size = rounded_size(asked, self.granularity)?;
+        let pool = pool_of(size, self.granularity, self.pools as u64);
         let units = (size / self.granularity) as usize;
         let (index, start) = match self.search(pool, units) {
             Some(found) => found,
@@ -126,34 +167,6 @@ impl Allocator {
         let block = &mut self.blocks[index];
         mark(block, start, units);
         Ok((block.base + start as u64 * self.granularity, size))
-    }
-
-    /// "Size. Round up to g; rounding up wraps at the top of 64 bits. Zero is refusal 1. Above 2,147,483,647
-    /// is refusal 2."
-    fn size(&self, asked: u64) -> Result<u64, Refusal> {
-        let rounded = match asked.checked_next_multiple_of(self.granularity) {
-            Some(rounded) => rounded,
-            // The next multiple is 2^64 itself.
-            None => 0,
-        };
-        match rounded {
-            0 => Err(INVALID_ARGUMENT),
-            1..=2_147_483_647 => Ok(rounded),
-            _ => Err(TOO_LARGE),
-        }
-    }
-
-    /// "Pool. One pool: 0. Three: pool 2 if the rounded size is a multiple of 4g, else 1 if of 2g, else 0."
-    fn pool(&self, size: u64) -> usize {
-        if self.pools == 1 {
-            0
-        } else if size % (4 * self.granularity) == 0 {
-            2
-        } else if size % (2 * self.granularity) == 0 {
-            1
-        } else {
-            0
-        }
     }
 
     /// "Search. Blocks of the pool, oldest first. ... In any state reached by calls this equals the lowest fit
@@ -171,7 +184,9 @@ impl Allocator {
 
     /// "New block." Answers its index; the block is the newest.
     fn new_block(&mut self, pool: usize, request: u64) -> Result<usize, Refusal> {
-        let size = self.new_block_size(pool, request);
+        // "Start from the size of the pool's newest block, or the base size if there is none"
+        let newest = self.blocks.iter().rfind(|block| block.pool == pool);
+        let size = new_block_size(newest.map_or(self.base_size, |block| block.size), request);
         let area = (size / self.granularity) as usize;
         // "Refusal 4 exactly if there is no such place, no free slot, or its words exceed W."
         let (Some(base), Some(slot)) = (self.place(size), self.free_slot()) else {
@@ -183,17 +198,6 @@ impl Allocator {
         // "Its slot is cleared."
         self.blocks.push(Block { base, size, pool, slot, used: vec![false; area], stop: vec![false; area] });
         Ok(self.blocks.len() - 1)
-    }
-
-    fn new_block_size(&self, pool: usize, request: u64) -> u64 {
-        // "Start from the size of the pool's newest block, or the base size if there is none"
-        let newest = self.blocks.iter().rfind(|block| block.pool == pool);
-        let start = newest.map_or(self.base_size, |block| block.size);
-        // "double it if it is below 33,554,432."
-        let size = if start < MAX_BLOCK_SIZE { 2 * start } else { start };
-        // "If the rounded request is larger, apply `align_up` with that size as the alignment. That is a bit
-        // mask, not a true multiple for 786,432."
-        if request > size { (request + (size - 1)) & !(size - 1) } else { size }
     }
 
     /// "the block stands at the lowest multiple of 65,536 where it lies within the arena and meets no

@@ -1,4 +1,5 @@
 //! `plain [FILE]`: reads a trace from FILE or standard input, writes its lines.
+//! `plain --states [FILE]`: the same of cases, which oracle/states.py makes.
 
 use std::io::{Read, Write};
 use std::process::exit;
@@ -19,16 +20,21 @@ fn read(file: Option<&String>) -> std::io::Result<Vec<u8>> {
 }
 
 fn main() {
-    let arguments: Vec<String> = std::env::args().skip(1).collect();
+    let mut arguments: Vec<String> = std::env::args().skip(1).collect();
+    let states = arguments.first().is_some_and(|argument| argument == "--states");
+    if states {
+        arguments.remove(0);
+    }
     if arguments.len() > 1 || arguments.iter().any(|argument| argument.starts_with('-')) {
-        fail("usage: plain [FILE]");
+        fail("usage: plain [--states] [FILE]");
     }
     let file = arguments.first();
     let bytes = match read(file) {
         Ok(bytes) => bytes,
         Err(error) => fail(&format!("cannot read {}: {error}", file.map_or("standard input", String::as_str))),
     };
-    if std::io::stdout().write_all(plain::trace::run(&bytes, |_| {}).as_bytes()).is_err() {
+    let lines = if states { plain::states::cases::run(&bytes) } else { plain::trace::run(&bytes, |_| {}) };
+    if std::io::stdout().write_all(lines.as_bytes()).is_err() {
         fail("cannot write the lines to standard output");
     }
 }

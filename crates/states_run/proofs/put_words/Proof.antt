@@ -1,0 +1,71 @@
+use Prim.Native.Nat.{_-_}
+use mathlib.Core.Path.{_≡_}
+use lib.ListN.{length}
+use borrow.Author.Needs.{needs}
+use Rattle.states_run.proofs.put_words.Statement.{statement}
+use Rattle.states_run.proofs.put_words.Tie as tie
+
+abbrev Inv-loop : tie.InvT-loop
+Inv-loop words₀ i₀ end word words i = length words₀ ≡ length words
+
+abbrev μ-loop : tie.MeasureT-loop
+μ-loop words₀ i₀ end word words i = end - i
+
+read-usize-requires : tie.Need-read-usize-requires Inv-loop μ-loop
+read-usize-requires c κs = search needs
+
+read-usize-requires-2 : tie.Need-read-usize-requires-2 Inv-loop μ-loop
+read-usize-requires-2 c κs = search needs
+
+read-u32-requires : tie.Need-read-u32-requires Inv-loop μ-loop
+read-u32-requires c κs = search needs
+
+loop-holds : tie.Need-loop-holds Inv-loop μ-loop
+loop-holds c = search needs
+
+mul-words : tie.Need-mul-words Inv-loop μ-loop
+mul-words c = search needs
+
+slice-write-words : tie.Need-slice-write-words Inv-loop μ-loop
+slice-write-words c = search needs
+
+add-i : tie.Need-add-i Inv-loop μ-loop
+add-i c = search needs
+
+loop-less : tie.Need-loop-less Inv-loop μ-loop
+loop-less c = search needs
+
+loop-again : tie.Need-loop-again Inv-loop μ-loop
+loop-again c = search needs
+
+same-length : tie.Need-same-length Inv-loop μ-loop
+same-length c = search needs
+
+returns : tie.Need-returns Inv-loop μ-loop
+returns c = search needs
+
+same-length-2 : tie.Need-same-length-2 Inv-loop μ-loop
+same-length-2 c = search needs
+
+returns-2 : tie.Need-returns-2 Inv-loop μ-loop
+returns-2 c = search needs
+
+pub put-words-spec : {M : Type 1} → statement M
+put-words-spec =
+    tie.close
+    (tie.spec
+    Inv-loop
+    μ-loop
+    read-usize-requires
+    read-usize-requires-2
+    read-u32-requires
+    loop-holds
+    mul-words
+    slice-write-words
+    add-i
+    loop-less
+    loop-again
+    same-length
+    returns
+    same-length-2
+    returns-2)

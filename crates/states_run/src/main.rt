@@ -1,0 +1,440 @@
+// Plays cases through the public calls: states that no trace reaches, given as data. `stdin` is made from oracle/states.txt, and `stdout` is what the
+// oracle's plain program answers to it (oracle/make-states makes both). All numbers are of 64 bits, little-endian; oracle/states.py has the form of a case.
+use block::Block;
+use sizes::Pool;
+use state::Answer;
+use state::Outcome;
+use state::Refusal;
+use state::Span;
+use state::State;
+ghost use mathlib.Core.Path.{_≡_};
+ghost use Prim.Native.Nat.{_<_, _≤_};
+ghost use lib.ListN.{length};
+
+// ---- numbers
+
+fn from_bytes(a: u8, b: u8, c: u8, d: u8) -> u32 {
+    (a as u32) | (b as u32) << 8 | (c as u32) << 16 | (d as u32) << 24
+}
+
+fn read_half() -> u32 {
+    let mut bytes: [u8; 4] = [0; 4];
+    io::read_full(0, &mut bytes);
+    from_bytes(bytes[0], bytes[1], bytes[2], bytes[3])
+}
+
+// A number of 32 bits: the upper half is passed over.
+fn read_u32() -> u32 {
+    let low = read_half();
+    read_half();
+    low
+}
+
+fn read_u64() -> u64 {
+    let low = read_half() as u64;
+    let high = read_half() as u64;
+    low | high << 32
+}
+
+fn read_usize() -> usize {
+    read_u64() as usize
+}
+
+fn number(n: u64) {
+    io::write_all(1, b" ");
+    io::print_decimal(1, n);
+}
+
+fn line_end() {
+    io::write_all(1, b"\n");
+}
+
+// ---- answers
+
+fn span_line(x: Span) {
+    number(x.address);
+    number(x.size);
+    line_end();
+}
+
+fn refusal_number(why: Refusal) -> u64 {
+    match why {
+        Refusal::InvalidArgument => 1,
+        Refusal::TooLarge => 2,
+        Refusal::InvalidState => 3,
+        Refusal::NoMapping => 4,
+        Refusal::BadShape => 5,
+        Refusal::Damaged => 6,
+    }
+}
+
+fn answer_line(a: Answer) {
+    match a {
+        Answer::Created(size, g, pools) => {
+            io::write_all(1, b"created");
+            number(size as u64);
+            number(g as u64);
+            number(pools as u64);
+            line_end();
+        }
+        Answer::Granted(x) => {
+            io::write_all(1, b"span");
+            span_line(x);
+        }
+        Answer::Shown(x) => {
+            io::write_all(1, b"span");
+            span_line(x);
+        }
+        Answer::Released(x) => {
+            io::write_all(1, b"released");
+            span_line(x);
+        }
+        Answer::Shrunk(x) => {
+            io::write_all(1, b"shrunk");
+            span_line(x);
+        }
+        Answer::Reset => {
+            io::write_all(1, b"reset\n");
+        }
+        Answer::Refused(why) => {
+            io::write_all(1, b"refused");
+            number(refusal_number(why));
+            line_end();
+        }
+    }
+}
+
+// ---- a state, in
+
+fn read_pool() -> Pool {
+    let granularity = read_u64();
+    let blocks = read_u32();
+    let empty = read_u32();
+    let area = read_u32();
+    let used = read_u32();
+    Pool {
+        granularity,
+        blocks,
+        empty,
+        area,
+        used,
+    }
+}
+
+// The record with no entry yet.
+fn read_state() -> State {
+    let mut s = state::zero_state();
+    s.size = read_u64();
+    s.g = read_u64();
+    s.pools = read_usize();
+    s.immediate = read_u64() != 0;
+    s.w = read_usize();
+    s.slots = read_usize();
+    s.arena = read_u64();
+    s.length = read_u64();
+    s.live = read_u64();
+    s.count = read_usize();
+    s.pool[0] = read_pool();
+    s.pool[1] = read_pool();
+    s.pool[2] = read_pool();
+    s
+}
+
+fn read_block() -> Block {
+    let base = read_u64();
+    let size = read_u64();
+    let pool = read_usize();
+    let slot = read_usize();
+    let flags = read_u32();
+    let area = read_u32();
+    let used = read_u32();
+    let start = read_u32();
+    let end = read_u32();
+    let largest = read_u32();
+    Block {
+        base,
+        size,
+        pool,
+        slot,
+        flags,
+        area,
+        used,
+        start,
+        end,
+        largest,
+    }
+}
+
+// An entry of both lists: its place, the age that stands there by address, and the block of that age.
+fn put_entry(s: State) -> State {
+    let mut r = s;
+    let i = read_usize();
+    let age = read_usize();
+    let b = read_block();
+    if i < 64 {
+        r.order[i] = age;
+        r.blocks[i] = b;
+    }
+    r
+}
+
+// The words from a place up to another.
+fn put_words(words: &mut [u32]) {
+    let mut i = read_usize();
+    let end = read_usize();
+    let word = read_u32();
+    while i < end && i < words.len() {
+        words[i] = word;
+        i += 1;
+    }
+}
+
+// ---- a state, out
+
+fn head_line(s: State) {
+    io::write_all(1, b"record");
+    number(s.size);
+    number(s.g);
+    number(s.pools as u64);
+    number(s.immediate as u64);
+    number(s.w as u64);
+    number(s.slots as u64);
+    number(s.arena);
+    number(s.length);
+    number(s.live);
+    number(s.count as u64);
+    line_end();
+}
+
+fn pool_line(q: Pool) {
+    io::write_all(1, b"pool");
+    number(q.granularity);
+    number(q.blocks as u64);
+    number(q.empty as u64);
+    number(q.area as u64);
+    number(q.used as u64);
+    line_end();
+}
+
+fn is_zero(age: usize, b: Block) -> bool {
+    if age != 0 {
+        return false;
+    }
+    if b.base | b.size != 0 {
+        return false;
+    }
+    if b.pool | b.slot != 0 {
+        return false;
+    }
+    b.flags | b.area | b.used | b.start | b.end | b.largest == 0
+}
+
+fn entry_line(i: usize, age: usize, b: Block) {
+    io::write_all(1, b"entry");
+    number(i as u64);
+    number(age as u64);
+    number(b.base);
+    number(b.size);
+    number(b.pool as u64);
+    number(b.slot as u64);
+    number(b.flags as u64);
+    number(b.area as u64);
+    number(b.used as u64);
+    number(b.start as u64);
+    number(b.end as u64);
+    number(b.largest as u64);
+    line_end();
+}
+
+fn show_record(s: State) {
+    head_line(s);
+    pool_line(s.pool[0]);
+    pool_line(s.pool[1]);
+    pool_line(s.pool[2]);
+    let mut i: usize = 0;
+    while i < 64 {
+        let age = s.order[i];
+        let b = s.blocks[i];
+        if !is_zero(age, b) {
+            entry_line(i, age, b);
+        }
+        i += 1;
+    }
+}
+
+// Up to where the words are as at `from`.
+fn alike_to(words: &[u32], from: usize) -> usize
+    requires { ⌜ from < length (now words) ⌝ }
+    ensures { λ r. ⌜ from < r ⌝ }
+{
+    let word = words[from];
+    let mut i = from + 1;
+    while i < words.len() {
+        if words[i] != word {
+            return i;
+        }
+        i += 1;
+    }
+    i
+}
+
+fn words_line(name: &[u8], from: usize, to: usize, word: u32) {
+    io::write_all(1, name);
+    number(from as u64);
+    number(to as u64);
+    io::write_all(1, b" ");
+    io::print_hex(1, word as u64, 8);
+    line_end();
+}
+
+// Words that are alike and not zero, on one line: from where, up to where, and the word.
+fn show_words(name: &[u8], words: &[u32]) {
+    let mut i: usize = 0;
+    while i < words.len() {
+        let end = alike_to(words, i);
+        if words[i] != 0 {
+            words_line(name, i, end, words[i]);
+        }
+        i = end;
+    }
+}
+
+// ---- cases
+
+fn play_create(used: &mut [u32], stop: &mut [u32]) -> Outcome {
+    let size = read_u32();
+    let g = read_u32();
+    let flags = read_u32();
+    let w = read_u32();
+    let arena = read_u64();
+    let length = read_u64();
+    create::create(size, g, flags, w, arena, length, used, stop)
+}
+
+fn play_shrink(s: State, used: &mut [u32], stop: &mut [u32]) -> Outcome {
+    let address = read_u64();
+    let size = read_u64();
+    shrink::shrink(s, used, stop, address, size)
+}
+
+// The calls by their kinds in a trace.
+fn call(s: State, used: &mut [u32], stop: &mut [u32], kind: u64) -> Outcome {
+    if kind == 1 {
+        return play_create(used, stop);
+    }
+    if kind == 2 {
+        return alloc::alloc(s, used, stop, read_u64());
+    }
+    if kind == 3 {
+        return release::release(s, used, stop, read_u64());
+    }
+    if kind == 4 {
+        return play_shrink(s, used, stop);
+    }
+    if kind == 5 {
+        let answer = query::query(s, used, stop, read_u64());
+        return Outcome { answer, state: s };
+    }
+    if kind == 6 {
+        return reset::soft_reset(s, used, stop);
+    }
+    reset::hard_reset(s, used, stop)
+}
+
+// The test for BadShape by itself, of slices of any lengths.
+fn shape_line(s: State) {
+    let used = read_usize();
+    let stop = read_usize();
+    if shape::shape_ok(s, used, stop) {
+        io::write_all(1, b"good shape\n");
+    } else {
+        io::write_all(1, b"bad shape\n");
+    }
+}
+
+fn play(s: State, used: &mut [u32], stop: &mut [u32], kind: u64) -> State {
+    if kind == 8 {
+        show_record(s);
+        show_words(b"used", used);
+        show_words(b"stop", stop);
+        return s;
+    }
+    if kind == 9 {
+        return put_entry(s);
+    }
+    if kind == 10 {
+        put_words(used);
+        return s;
+    }
+    if kind == 11 {
+        put_words(stop);
+        return s;
+    }
+    if kind == 12 {
+        shape_line(s);
+        return s;
+    }
+    let o = call(s, used, stop, kind);
+    let answer = o.answer;
+    answer_line(answer);
+    o.state
+}
+
+// How often a loop turns at most: with a bound it ends whatever the input is.
+const TURNS: u32 = 1000000;
+
+fn play_steps(used: &mut [u32], stop: &mut [u32]) {
+    let mut s = read_state();
+    let mut left: u32 = TURNS;
+    while 0 < left {
+        let kind = read_u64();
+        if kind == 0 {
+            return;
+        }
+        s = play(s, used, stop, kind);
+        left -= 1;
+    }
+}
+
+// The lengths of the case's slices, and its steps on so many words.
+fn play_lent(used: &mut [u32], stop: &mut [u32]) {
+    let u = read_usize();
+    let t = read_usize();
+    if u <= used.len() {
+        if t <= stop.len() {
+            play_steps(&mut used[..u], &mut stop[..t]);
+        }
+    }
+}
+
+// 64 slots of 4,096 words: blocks of 32 MiB in units of 256 bytes.
+fn map_words() -> [u32; 262144]
+    ensures { λ r. ⌜ 262144 ≡ length r ⌝ }
+{
+    [0; 262144]
+}
+
+// A label is a line of 64 bytes.
+fn label_line() {
+    let mut bytes: [u8; 64] = [0; 64];
+    let n = io::read_full(0, &mut bytes);
+    io::write_all(1, &bytes[..n]);
+}
+
+fn play_case() {
+    label_line();
+    let mut used = map_words();
+    let mut stop = map_words();
+    play_lent(&mut used, &mut stop);
+}
+
+fn main() {
+    let mut left: u32 = TURNS;
+    while 0 < left {
+        if read_u64() == 0 {
+            return;
+        }
+        play_case();
+        left -= 1;
+    }
+}
