@@ -24,13 +24,16 @@ WORDS start with the name of a state, unless it is all zeros, and change it, fro
   used1=A..B stop1=A..B           those bits alone
   used@A..B=WORD stop@A..B=WORD   whole words of a map
 
-STEP is a call as in a trace's text (create, alloc, release, shrink, query, soft, hard), `show`, which writes all of the
-state that isn't zero, or `shape U T`, the test for BadShape by itself for slices of U and T words. 8*STEP is it 8 times.
+STEP is a call as in a trace's text (create, alloc, release, shrink, query, soft, hard), or `show`; 8*STEP is it 8 times.
 
-The numbers have 64 bits, little-endian. Each case is a 1; its label, a line of 64 bytes; the two lengths; the ten numbers
-of the record and the three pools; then steps up to a 0. A 0 behind the last case ends the cases. A step is its kind and
-its numbers: 1 to 7 the calls by their kinds in a trace, 8 show, 9 an entry (its place, the order there, the block there),
-10 and 11 words of the used and the stop map (from, up to, the word), 12 shape.
+The numbers have 64 bits, little-endian. Each case is a 1; its label, a line of 64 bytes; the lengths of the two slices; the
+words of the used and of the stop slice, each as runs of equal words (up to where, the word); the ten numbers of the record
+and the three pools; then steps up to a 0. A 0 behind the last case ends the cases. A step is its kind and its numbers: 1 to 7
+the calls by their kinds in a trace, 8 an entry of the lists (its place, the order there, the block there), 9 show.
+
+What is written: the label, 01's line for each call, and for `show` the lines `record` and `pool` with the numbers as above,
+`entry` for each place of the lists that isn't all zeros (its place, the order there, the block there), `used` and `stop` for
+each word unlike the one before it (the word before the first counts as 0).
 """
 
 import copy
@@ -42,7 +45,7 @@ HEAD = ["size", "g", "pools", "immediate", "w", "slots", "arena", "length", "liv
 BLOCK = ["base", "size", "pool", "slot", "flags", "area", "used", "start", "end", "largest"]
 POOL = ["granularity", "blocks", "empty", "area", "used"]
 STEPS = {"create": (1, 6), "alloc": (2, 1), "release": (3, 1), "shrink": (4, 2), "query": (5, 1), "soft": (6, 0)}
-STEPS |= {"hard": (7, 0), "show": (8, 0), "shape": (12, 2)}
+STEPS |= {"hard": (7, 0), "show": (9, 0)}
 LABEL = 64
 WORDS_AT_MOST = 262144
 
@@ -146,28 +149,25 @@ class State:
             entries[place].update(zip(names, values))
 
     def numbers(self):
-        """The state, and the steps that bring in its entries and its words."""
+        """The state, and the steps that bring in its entries."""
         yield from self.lent
+        for name, length in zip(self.maps, self.lent):
+            yield from runs(self.maps[name], length)
         yield from self.head.values()
         for pool in self.pool:
             yield from pool.values()
         for place, (age, block) in enumerate(zip(self.order, self.block)):
             if age or any(block.values()):
-                yield from (9, place, age, *block.values())
-        for kind, name in ((10, "used"), (11, "stop")):
-            for first, end, word in runs(self.maps[name]):
-                yield from (kind, first, end, word)
+                yield from (8, place, age, *block.values())
 
 
-def runs(words):
-    """Neighbours that are alike and not zero: from where, up to where, and the word."""
-    found = []
-    for place in sorted(words):
-        if words[place] and found and found[-1][1:] == [place, words[place]]:
-            found[-1][1] += 1
-        elif words[place]:
-            found.append([place, place + 1, words[place]])
-    return found
+def runs(words, length):
+    """Runs of equal words, zeros too: up to where, and the word."""
+    edges = sorted({0, length, *words, *(place + 1 for place in words)})
+    values = [words.get(place, 0) for place in edges[:-1]]
+    for end, word, after in zip(edges[1:], values, [*values[1:], None]):
+        if word != after:
+            yield from (end, word)
 
 
 def step_numbers(text):

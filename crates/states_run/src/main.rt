@@ -45,16 +45,39 @@ fn number(n: u64) {
     io::print_decimal(1, n);
 }
 
-fn line_end() {
+// A word and the first of twelve numbers.
+fn line(word: &[u8], numbers: &[u64; 12], n: usize)
+    requires { ⌜ n ≤ 12 ⌝ }
+{
+    io::write_all(1, word);
+    let mut i: usize = 0;
+    while i < n {
+        number(numbers[i]);
+        i += 1;
+    }
     io::write_all(1, b"\n");
 }
 
 // ---- answers
 
 fn span_line(x: Span) {
-    number(x.address);
-    number(x.size);
-    line_end();
+    line(b"span", &[x.address, x.size, 0, 0, 0, 0, 0, 0, 0, 0, 0, 0], 2);
+}
+
+fn released_line(x: Span) {
+    line(b"released", &[x.address, x.size, 0, 0, 0, 0, 0, 0, 0, 0, 0, 0], 2);
+}
+
+fn shrunk_line(x: Span) {
+    line(b"shrunk", &[x.address, x.size, 0, 0, 0, 0, 0, 0, 0, 0, 0, 0], 2);
+}
+
+fn created_line(size: u64, g: u64, pools: usize) {
+    line(b"created", &[size, g, pools as u64, 0, 0, 0, 0, 0, 0, 0, 0, 0], 3);
+}
+
+fn reset_line() {
+    io::write_all(1, b"reset\n");
 }
 
 fn refusal_number(why: Refusal) -> u64 {
@@ -68,39 +91,19 @@ fn refusal_number(why: Refusal) -> u64 {
     }
 }
 
+fn refusal_line(why: Refusal) {
+    line(b"refused", &[refusal_number(why), 0, 0, 0, 0, 0, 0, 0, 0, 0, 0, 0], 1);
+}
+
 fn answer_line(a: Answer) {
     match a {
-        Answer::Created(size, g, pools) => {
-            io::write_all(1, b"created");
-            number(size as u64);
-            number(g as u64);
-            number(pools as u64);
-            line_end();
-        }
-        Answer::Granted(x) => {
-            io::write_all(1, b"span");
-            span_line(x);
-        }
-        Answer::Shown(x) => {
-            io::write_all(1, b"span");
-            span_line(x);
-        }
-        Answer::Released(x) => {
-            io::write_all(1, b"released");
-            span_line(x);
-        }
-        Answer::Shrunk(x) => {
-            io::write_all(1, b"shrunk");
-            span_line(x);
-        }
-        Answer::Reset => {
-            io::write_all(1, b"reset\n");
-        }
-        Answer::Refused(why) => {
-            io::write_all(1, b"refused");
-            number(refusal_number(why));
-            line_end();
-        }
+        Answer::Created(size, g, pools) => created_line(size, g, pools),
+        Answer::Granted(x) => span_line(x),
+        Answer::Shown(x) => span_line(x),
+        Answer::Released(x) => released_line(x),
+        Answer::Shrunk(x) => shrunk_line(x),
+        Answer::Reset => reset_line(),
+        Answer::Refused(why) => refusal_line(why),
     }
 }
 
@@ -178,12 +181,16 @@ fn put_entry(s: State) -> State {
     r
 }
 
-// The words from a place up to another.
+// All words of a map: up to where they are alike, and the word.
 fn put_words(words: &mut [u32]) {
-    let mut i = read_usize();
-    let end = read_usize();
-    let word = read_u32();
-    while i < end && i < words.len() {
+    let mut end: usize = 0;
+    let mut word: u32 = 0;
+    let mut i: usize = 0;
+    while i < words.len() {
+        if i >= end {
+            end = read_usize();
+            word = read_u32();
+        }
         words[i] = word;
         i += 1;
     }
@@ -192,58 +199,29 @@ fn put_words(words: &mut [u32]) {
 // ---- a state, out
 
 fn head_line(s: State) {
-    io::write_all(1, b"record");
-    number(s.size);
-    number(s.g);
-    number(s.pools as u64);
-    number(s.immediate as u64);
-    number(s.w as u64);
-    number(s.slots as u64);
-    number(s.arena);
-    number(s.length);
-    number(s.live);
-    number(s.count as u64);
-    line_end();
+    let now = s.immediate as u64;
+    let numbers = [s.size, s.g, s.pools as u64, now, s.w as u64, s.slots as u64, s.arena, s.length, s.live, s.count as u64, 0, 0];
+    line(b"record", &numbers, 10);
 }
 
 fn pool_line(q: Pool) {
-    io::write_all(1, b"pool");
-    number(q.granularity);
-    number(q.blocks as u64);
-    number(q.empty as u64);
-    number(q.area as u64);
-    number(q.used as u64);
-    line_end();
+    let numbers = [q.granularity, q.blocks as u64, q.empty as u64, q.area as u64, q.used as u64, 0, 0, 0, 0, 0, 0, 0];
+    line(b"pool", &numbers, 5);
 }
 
 fn is_zero(age: usize, b: Block) -> bool {
-    if age != 0 {
+    if age | b.pool | b.slot != 0 {
         return false;
     }
     if b.base | b.size != 0 {
-        return false;
-    }
-    if b.pool | b.slot != 0 {
         return false;
     }
     b.flags | b.area | b.used | b.start | b.end | b.largest == 0
 }
 
 fn entry_line(i: usize, age: usize, b: Block) {
-    io::write_all(1, b"entry");
-    number(i as u64);
-    number(age as u64);
-    number(b.base);
-    number(b.size);
-    number(b.pool as u64);
-    number(b.slot as u64);
-    number(b.flags as u64);
-    number(b.area as u64);
-    number(b.used as u64);
-    number(b.start as u64);
-    number(b.end as u64);
-    number(b.largest as u64);
-    line_end();
+    let numbers = [i as u64, age as u64, b.base, b.size, b.pool as u64, b.slot as u64, b.flags as u64, b.area as u64, b.used as u64, b.start as u64, b.end as u64, b.largest as u64];
+    line(b"entry", &numbers, 12);
 }
 
 fn show_record(s: State) {
@@ -262,46 +240,31 @@ fn show_record(s: State) {
     }
 }
 
-// Up to where the words are as at `from`.
-fn alike_to(words: &[u32], from: usize) -> usize
-    requires { ⌜ from < length (now words) ⌝ }
-    ensures { λ r. ⌜ from < r ⌝ }
-{
-    let word = words[from];
-    let mut i = from + 1;
-    while i < words.len() {
-        if words[i] != word {
-            return i;
-        }
-        i += 1;
-    }
-    i
-}
-
-fn words_line(name: &[u8], from: usize, to: usize, word: u32) {
+fn word_line(name: &[u8], i: usize, word: u32) {
     io::write_all(1, name);
-    number(from as u64);
-    number(to as u64);
+    number(i as u64);
     io::write_all(1, b" ");
     io::print_hex(1, word as u64, 8);
-    line_end();
+    io::write_all(1, b"\n");
 }
 
-// Words that are alike and not zero, on one line: from where, up to where, and the word.
+// Each word that is unlike the one before it; the words start from 0.
 fn show_words(name: &[u8], words: &[u32]) {
+    let mut before: u32 = 0;
     let mut i: usize = 0;
     while i < words.len() {
-        let end = alike_to(words, i);
-        if words[i] != 0 {
-            words_line(name, i, end, words[i]);
+        let word = words[i];
+        if word != before {
+            word_line(name, i, word);
         }
-        i = end;
+        before = word;
+        i += 1;
     }
 }
 
 // ---- cases
 
-fn play_create(used: &mut [u32], stop: &mut [u32]) -> Outcome {
+fn create(used: &mut [u32], stop: &mut [u32]) -> Outcome {
     let size = read_u32();
     let g = read_u32();
     let flags = read_u32();
@@ -311,79 +274,52 @@ fn play_create(used: &mut [u32], stop: &mut [u32]) -> Outcome {
     create::create(size, g, flags, w, arena, length, used, stop)
 }
 
-fn play_shrink(s: State, used: &mut [u32], stop: &mut [u32]) -> Outcome {
-    let address = read_u64();
-    let size = read_u64();
-    shrink::shrink(s, used, stop, address, size)
-}
-
-// The calls by their kinds in a trace.
-fn call(s: State, used: &mut [u32], stop: &mut [u32], kind: u64) -> Outcome {
-    if kind == 1 {
-        return play_create(used, stop);
-    }
-    if kind == 2 {
-        return alloc::alloc(s, used, stop, read_u64());
-    }
-    if kind == 3 {
-        return release::release(s, used, stop, read_u64());
-    }
-    if kind == 4 {
-        return play_shrink(s, used, stop);
-    }
-    if kind == 5 {
-        let answer = query::query(s, used, stop, read_u64());
-        return Outcome { answer, state: s };
-    }
-    if kind == 6 {
-        return reset::soft_reset(s, used, stop);
-    }
-    reset::hard_reset(s, used, stop)
-}
-
-// The test for BadShape by itself, of slices of any lengths.
-fn shape_line(s: State) {
-    let used = read_usize();
-    let stop = read_usize();
-    if shape::shape_ok(s, used, stop) {
-        io::write_all(1, b"good shape\n");
-    } else {
-        io::write_all(1, b"bad shape\n");
-    }
-}
-
-fn play(s: State, used: &mut [u32], stop: &mut [u32], kind: u64) -> State {
-    if kind == 8 {
-        show_record(s);
-        show_words(b"used", used);
-        show_words(b"stop", stop);
-        return s;
-    }
-    if kind == 9 {
-        return put_entry(s);
-    }
-    if kind == 10 {
-        put_words(used);
-        return s;
-    }
-    if kind == 11 {
-        put_words(stop);
-        return s;
-    }
-    if kind == 12 {
-        shape_line(s);
-        return s;
-    }
-    let o = call(s, used, stop, kind);
+fn told(o: Outcome) -> State {
     let answer = o.answer;
     answer_line(answer);
     o.state
+}
+
+// A step: a call by its kind in a trace, or one of the two others.
+fn play(s: State, used: &mut [u32], stop: &mut [u32], kind: u64) -> State {
+    if kind == 1 {
+        return told(create(used, stop));
+    }
+    if kind == 2 {
+        return told(alloc::alloc(s, used, stop, read_u64()));
+    }
+    if kind == 3 {
+        return told(release::release(s, used, stop, read_u64()));
+    }
+    if kind == 4 {
+        let address = read_u64();
+        return told(shrink::shrink(s, used, stop, address, read_u64()));
+    }
+    if kind == 5 {
+        answer_line(query::query(s, used, stop, read_u64()));
+        return s;
+    }
+    if kind == 6 {
+        return told(reset::soft_reset(s, used, stop));
+    }
+    if kind == 7 {
+        return told(reset::hard_reset(s, used, stop));
+    }
+    if kind == 8 {
+        return put_entry(s);
+    }
+    show_record(s);
+    show_words(b"used", used);
+    show_words(b"stop", stop);
+    s
 }
 
 // How often a loop turns at most: with a bound it ends whatever the input is.
 const TURNS: u32 = 1000000;
 
 fn play_steps(used: &mut [u32], stop: &mut [u32]) {
+    put_words(used);
+    put_words(stop);
     let mut s = read_state();
     let mut left: u32 = TURNS;
     while 0 < left {

@@ -10,6 +10,12 @@ Inv-loop used₀ stop₀ s₀ left₀ used stop s left = (length used₀ ≡ len
 abbrev μ-loop : tie.MeasureT-loop
 μ-loop used₀ stop₀ s₀ left₀ used stop s left = left
 
+put-words-requires : tie.Need-put-words-requires Inv-loop μ-loop
+put-words-requires c κs = search needs
+
+put-words-requires-2 : tie.Need-put-words-requires-2 Inv-loop μ-loop
+put-words-requires-2 c κs = search needs
+
 read-state-requires : tie.Need-read-state-requires Inv-loop μ-loop
 read-state-requires c κs = search needs
 
@@ -55,6 +61,8 @@ play-steps-spec =
     (tie.spec
     Inv-loop
     μ-loop
+    put-words-requires
+    put-words-requires-2
     read-state-requires
     loop-holds
     read-u64-requires

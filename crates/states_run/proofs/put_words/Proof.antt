@@ -6,22 +6,19 @@ use Rattle.states_run.proofs.put_words.Statement.{statement}
 use Rattle.states_run.proofs.put_words.Tie as tie
 
 abbrev Inv-loop : tie.InvT-loop
-Inv-loop words₀ i₀ end word words i = length words₀ ≡ length words
+Inv-loop words₀ end₀ word₀ i₀ words end word i = length words₀ ≡ length words
 
 abbrev μ-loop : tie.MeasureT-loop
-μ-loop words₀ i₀ end word words i = end - i
+μ-loop words₀ end₀ word₀ i₀ words end word i = length words₀ - i
+
+loop-holds : tie.Need-loop-holds Inv-loop μ-loop
+loop-holds c = search needs
 
 read-usize-requires : tie.Need-read-usize-requires Inv-loop μ-loop
 read-usize-requires c κs = search needs
 
-read-usize-requires-2 : tie.Need-read-usize-requires-2 Inv-loop μ-loop
-read-usize-requires-2 c κs = search needs
-
 read-u32-requires : tie.Need-read-u32-requires Inv-loop μ-loop
 read-u32-requires c κs = search needs
-
-loop-holds : tie.Need-loop-holds Inv-loop μ-loop
-loop-holds c = search needs
 
 mul-words : tie.Need-mul-words Inv-loop μ-loop
 mul-words c = search needs
@@ -44,28 +41,19 @@ same-length c = search needs
 returns : tie.Need-returns Inv-loop μ-loop
 returns c = search needs
 
-same-length-2 : tie.Need-same-length-2 Inv-loop μ-loop
-same-length-2 c = search needs
-
-returns-2 : tie.Need-returns-2 Inv-loop μ-loop
-returns-2 c = search needs
-
 pub put-words-spec : {M : Type 1} → statement M
 put-words-spec =
     tie.close
     (tie.spec
     Inv-loop
     μ-loop
-    read-usize-requires
-    read-usize-requires-2
-    read-u32-requires
     loop-holds
+    read-usize-requires
+    read-u32-requires
     mul-words
     slice-write-words
     add-i
     loop-less
     loop-again
     same-length
-    returns
-    same-length-2
-    returns-2)
+    returns)

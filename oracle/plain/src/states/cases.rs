@@ -2,7 +2,6 @@
 
 use super::machine::State;
 use super::record::{Block, LIMIT, Pool, Record};
-use super::shape;
 use crate::{Asked, Bytes, Refusal};
 use std::fmt::Write;
 
@@ -58,9 +57,20 @@ impl<'a> Input<'a> {
         }
     }
 
-    /// The lengths of the slices, and the record with no entry yet.
+    /// So many words, as runs of equal ones: up to where, and the word.
+    fn words(&mut self, length: usize) -> Vec<u32> {
+        let mut words = Vec::with_capacity(length);
+        while words.len() < length {
+            let (end, word) = (self.index(), self.half());
+            words.resize(end, word);
+        }
+        words
+    }
+
+    /// The lengths of the slices, their words, and the record with no entry yet.
     fn state(&mut self) -> State {
-        let (used, stop) = (vec![0; self.index()], vec![0; self.index()]);
+        let (used_words, stop_words) = (self.index(), self.index());
+        let (used, stop) = (self.words(used_words), self.words(stop_words));
         let record = Record {
             base_size: self.number(),
             granularity: self.number(),
@@ -95,11 +105,6 @@ impl<'a> Input<'a> {
         record.order[place] = self.number();
         record.blocks[place] = self.block();
     }
-
-    fn words(&mut self, map: &mut [u32]) {
-        let (from, to, word) = (self.index(), self.index(), self.half());
-        map[from..to].fill(word);
-    }
 }
 
 fn answer(word: &str, result: Result<Bytes, Refusal>) -> String {
@@ -127,19 +132,11 @@ fn step(kind: u64, state: &mut State, input: &mut Input) -> String {
             Ok(()) => "reset\n".to_string(),
             Err(refusal) => format!("refused {refusal}\n"),
         },
-        8 => shown(state),
-        9 => {
+        8 => {
             input.entry(&mut state.record);
             String::new()
         }
-        10 | 11 => {
-            input.words(if kind == 10 { &mut state.used } else { &mut state.stop });
-            String::new()
-        }
-        12 => {
-            let broken = shape::broken(&state.record, input.number(), input.number());
-            if broken.is_empty() { "good shape\n".to_string() } else { "bad shape\n".to_string() }
-        }
+        9 => shown(state),
         _ => panic!("a case has no step {kind}"),
     }
 }
@@ -176,16 +173,15 @@ fn shown(state: &State) -> String {
     lines + &shown_words("used", &state.used) + &shown_words("stop", &state.stop)
 }
 
-/// Words that are alike and not zero, on one line: from where, up to where, and the word.
+/// Each word that is unlike the one before it; the words start from 0.
 fn shown_words(name: &str, map: &[u32]) -> String {
     let mut lines = String::new();
-    let mut from = 0;
-    for alike in map.chunk_by(|one, next| one == next) {
-        let to = from + alike.len();
-        if alike[0] != 0 {
-            let _ = writeln!(lines, "{name} {from} {to} {:08x}", alike[0]);
+    let mut before = 0;
+    for (place, word) in map.iter().enumerate() {
+        if *word != before {
+            let _ = writeln!(lines, "{name} {place} {word:08x}");
         }
-        from = to;
+        before = *word;
     }
     lines
 }
