@@ -1,7 +1,6 @@
 #!/usr/bin/env python3
-"""Prints the lines that the test programs of `numbers`, `slots`, `runs`, `sizes`, `table`, `change` and `shape` must
-write, made naively: units by integer arithmetic, maps bit by bit, sizes and shapes by the words of document 01, tables
-by a list of blocks.
+"""Prints the lines that the test programs of `numbers`, `slots`, `runs`, `sizes`, `table` and `change` must write, made
+naively: units by integer arithmetic, maps bit by bit, sizes by the words of document 01, tables by a list of blocks.
 
   units    `units SIZE UNIT N`, the units of UNIT bytes that hold SIZE bytes, and `bytes N UNIT SIZE`, their bytes
   slots    over 6 words, slots of 2: `mark SLOT AT N W0 .. W5` and `unmark ..`, the words after it; `slot SLOT W0 W1`
@@ -12,7 +11,6 @@ by a list of blocks.
   tables   of four tables each: `count N`; `block AGE BASE SIZE POOL SLOT AREA` and `order ..`, five of each, zeros
            behind; `pool NUMBER BLOCKS AREA`; `newest POOL SIZE`; `slot at SLOT` or `slot nothing`; `lookup ADDRESS at
            AGE` or `.. nothing`; `place SIZE at ADDRESS` or `.. nowhere`
-  shapes   `LABEL ok`, or `LABEL bad` for a state that is BadShape, clause by clause
 
 The outputs that the programs are held to are made again so, in the repository's root:
 
@@ -22,7 +20,6 @@ The outputs that the programs are held to are made again so, in the repository's
   oracle/runs_vectors.py windows > crates/runs_run/stdout
   oracle/runs_vectors.py sizes > crates/sizes_run/stdout
   oracle/runs_vectors.py tables > crates/table_run/stdout
-  oracle/runs_vectors.py shapes > crates/shape_run/stdout
 """
 
 import signal
@@ -211,178 +208,12 @@ def tables():
             print("place", size, *or_else("nowhere", list(places(arena, length, blocks, size))))
 
 
-# The states that these labels speak of are in crates/shape_run; where it can be, one clause is broken alone. The good
-# state has, by age: 2,048 units of pool 0 at 1,310,720 in slot 2, 100 used; 1,024 of pool 2 at 1,572,864 in slot 0, 30
-# used; 1,024 of pool 0 at 1,179,648 in slot 1, empty. g is 64, there are four slots of 64 words, and the arena is 1 MiB
-# from 1,048,576 on.
-def told(label, good):
-    print(label, "ok" if good else "bad")
-
-
-def listed(label, good, values):
-    for value in values:
-        told(f"{label} {value}", value in good)
-
-
-UNIT_TOP = 2**32 - 1
-BASE_SIZES = [65536 << k for k in range(10)]
-SIZES_TRIED = [
-    0, 32768, 65535, 65536, 65537, 98304, 131072, 33554431, 33554432, 33554433, 67108864, 2**32 + 65536, TOP - 1,
-]
-
-
-def head_shapes():
-    """Creation's numbers outside the limits; the lent slices; more blocks than slots."""
-    listed("granularity", (64, 128, 256), (0, 32, 63, 64, 65, 96, 128, 192, 256, 512, TOP - 1))
-    listed("base size", BASE_SIZES, SIZES_TRIED)
-    listed("pools", (1, 3), (0, 1, 2, 3, 4, TOP - 1))
-    listed("slot words", (1, 16384), (0, 1, 16384, 16385, TOP - 1))
-    listed("slots", (1, 64), (0, 1, 64, 65, TOP - 1))
-    top = 2**48
-    for base in (0, 64, 65535, 65536, 65537):
-        told(f"arena {base} 65536", base == 65536)
-    for length in (0, 65535, 65537):
-        told(f"arena 65536 {length}", False)
-    for base, length in (
-        (65536, top - 65536), (131072, top - 65536), (65536, top), (top - 65536, 65536), (top - 65536, 131072),
-        (top, 65536), (top + 65536, 65536), (TOP - 65536, 65536), (TOP - 65536, 131072), (65536, TOP - 65536),
-        (2**63, 2**63),
-    ):
-        told(f"arena {base} {length}", base + length <= top)
-    for used, stop in ((0, 0), (255, 256), (256, 255), (256, 256), (257, 256), (256, 257), (TOP - 1, TOP - 1)):
-        told(f"lent {used} {stop}", used >= 4 * 64 and stop >= 4 * 64)
-    listed("three blocks, slots", (3,), (2, 3))
-    listed("three records, blocks", (), (4, 5, 65, TOP - 1))
-
-
-def block_shapes():
-    """One block: its slot and pool numbers, its base, its area, its fields."""
-    listed("slot of four", (3,), (3, 4, 63, 64, TOP - 1))
-    told("pool number 2 of three", True)
-    listed("pool number of three", (), (3, TOP - 1))
-    told("pool number 0 of one", True)
-    told("pool number 2 of one", False)
-    for base in (1572864, 1572865, 1572928, 1605632, 1638399, 1638400):
-        told(f"block base {base}", base % 65536 == 0)
-    for area in (0, 1, 31, 32, 33, 48, 64, 2016, 2047, 2048, 2080):
-        told(f"area {area}", area != 0 and area % 32 == 0 and area <= 32 * 64)
-    for size in (0, 65472, 65535, 65536, 65537, 131072):
-        told(f"area 1024, size {size}", size == 1024 * 64)
-    for g, w, area, size in (
-        (128, 1, 32, 4096), (128, 1, 32, 2048), (256, 1, 32, 8192), (256, 1, 64, 16384),
-        (256, 16384, 524288, 134217728), (256, 16384, 524320, 134225920),
-    ):
-        told(f"block {g} {w} {area} {size}", area * g == size and area <= 32 * w)
-    for field in ("used", "window start", "window end", "largest"):
-        listed(f"{field} of 1024", (1024,), (1024, 1025, UNIT_TOP))
-
-
-def place_shapes():
-    """Two blocks sharing a slot or bytes; a block outside the arena."""
-    listed("slot of four", (), (1, 2))
-    told("touching the one before and the one behind", True)
-    told("2048 bytes into the one behind", False)
-    told("65536 bytes into the one behind", False)
-    told("touching the one before", True)
-    told("65536 bytes into the one before", False)
-    told("inside the one before", False)
-    told("same base, in one order", False)
-    told("same base, in the other", False)
-    told("the arena starts with the lowest block", True)
-    told("the lowest block below the arena", False)
-    told("the arena ends with the highest block", True)
-    told("the highest block behind the arena", False)
-    told("the highest block ends 2048 bytes behind the arena", False)
-    told("the arena starts and ends with its blocks", True)
-    told("an arena smaller than a block", False)
-    told("an arena as large as its block", True)
-    told("an arena as large as its block, before it", False)
-    told("an arena of all addresses from 65536 up to 2^48", True)
-    listed("block at", (2031616,), (2031616, 2097152, 2**48, TOP - 65536))
-
-
-def flag_shapes(pairs):
-    """The empty flag not matching used 0; another flag."""
-    for flags, used in pairs:
-        told(f"flags {flags} used {used}", flags < 4 and flags % 2 == (used == 0))
-
-
-def pool_shapes():
-    """Stored sums unlike the blocks: granularity, blocks, empty, area, used."""
-    like = {0: (64, 2, 1, 3072, 100), 1: (64, 0, 0, 0, 0), 2: (64, 1, 0, 1024, 30)}
-    off = [(1, -1), (1, 1), (2, -1), (2, 1), (3, -1), (3, 1), (4, -1), (4, 1)]
-    above = [(1, 1), (2, 1), (3, 1), (4, 1)]
-    told_sums("", 0, like[0], [(), *off, (0, -1), (0, 1), (0, 64)])
-    told_sums("", 1, like[1], [(), *above, (0, 64), (0, -64)])
-    told_sums("", 2, like[2], [(), *(change for change in off if change != (2, -1)), (0, 192)])
-    told_sums("not in force, ", 1, like[1], [(), *above, (0, -64), (0, -1), (0, 64)])
-    told_sums("not in force, ", 2, like[1], [(), *above, (0, -64), (0, 1), (0, 192)])
-
-
-def told_sums(before, pool, like, changes):
-    """A change is a field and how far it is off; none is the sums as they are."""
-    for change in changes:
-        stored = list(like)
-        if change:
-            stored[change[0]] += change[1]
-        told(" ".join([f"{before}pool {pool}", *map(str, stored)]), not change)
-
-
-def table_shapes():
-    """Empty blocks; live count; address order; entries past the last block."""
-    told("no empty block", True)
-    told("an empty block", True)
-    told("an empty block in each of two pools", True)
-    told("two empty blocks in a pool", False)
-    told("immediate release, no block", True)
-    told("immediate release, no empty block", True)
-    told("immediate release, an empty block", False)
-    told("immediate release, two empty blocks in a pool", False)
-    for live in (0, 129, 130, 131, 4096, TOP - 1):
-        told(f"live of 130 {live}", live <= 130)
-    listed("live of no block", (0,), (0, 1))
-    for order in (
-        (2, 0, 1), (0, 1, 2), (0, 2, 1), (1, 0, 2), (1, 2, 0), (2, 1, 0), (2, 2, 1), (2, 0, 0), (2, 0, 2), (0, 0, 1),
-        (2, 1, 1), (0, 0, 0), (3, 0, 1), (2, 3, 1), (2, 0, 3), (2, 0, 64), (TOP - 1, 0, 1), (2, 0, TOP - 1),
-    ):
-        told("order {} {} {}".format(*order), order == (2, 0, 1))
-    told("behind: zeros", True)
-    for field in ("base", "size", "pool", "slot", "flags", "area", "used", "window start", "window end", "largest"):
-        told(f"behind: {field}", False)
-    told("behind: the last record", False)
-    told("behind: the fourth place", False)
-    told("behind: the last place", False)
-    told("behind no block: a record", False)
-    told("behind no block: a place", False)
-
-
-def shapes():
-    told("good", True)
-    told("no block", True)
-    told("full, window start above its end", True)
-    told("full and dirty", True)
-    told("empty and dirty", True)
-    told("2048 bytes", True)
-    head_shapes()
-    block_shapes()
-    place_shapes()
-    flag_shapes([(flags, used) for used in (0, 1, 1024) for flags in range(4)])
-    pool_shapes()
-    table_shapes()
-    flag_shapes([(4, 30), (5, 0), (6, 30), (7, 0), (256, 30)])
-    flag_shapes([(2**31, 30), (2**31 + 2, 30), (2**31 + 1, 0), (UNIT_TOP, 0)])
-    told("zeros", False)
-    told("all fields at their most", False)
-    told("a table of fields at their most", False)
-    told("a block of fields at their most", False)
-
-
-KINDS = {"units": units, "slots": slots, "windows": windows, "sizes": sizes, "tables": tables, "shapes": shapes}
+KINDS = {"units": units, "slots": slots, "windows": windows, "sizes": sizes, "tables": tables}
 
 
 def main(words):
     if len(words) != 1 or words[0] not in KINDS:
-        print("usage: oracle/runs_vectors.py units|slots|windows|sizes|tables|shapes", file=sys.stderr)
+        print("usage: oracle/runs_vectors.py units|slots|windows|sizes|tables", file=sys.stderr)
         return 2
     KINDS[words[0]]()
     return 0

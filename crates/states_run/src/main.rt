@@ -1,5 +1,5 @@
-// Plays cases through the public calls: states that no trace reaches, given as data. `stdin` is made from oracle/states.txt, and `stdout` is what the
-// oracle's plain program answers to it (oracle/make-states makes both). All numbers are of 64 bits, little-endian; oracle/states.py has the form of a case.
+// Plays cases through the public calls: states that no trace reaches, given as numbers. `stdin` has the cases of oracle/states.txt, and `stdout` what
+// the oracle's plain program writes for them (oracle/make-states makes both). oracle/states.py says how a case is laid out and what is written.
 use block::Block;
 use sizes::Pool;
 use state::Answer;
@@ -8,7 +8,7 @@ use state::Refusal;
 use state::Span;
 use state::State;
 ghost use mathlib.Core.Path.{_≡_};
-ghost use Prim.Native.Nat.{_<_, _≤_};
+ghost use Prim.Native.Nat.{_≤_};
 ghost use lib.ListN.{length};
 
 // ---- numbers
@@ -61,19 +61,35 @@ fn line(word: &[u8], numbers: &[u64; 12], n: usize)
 // ---- answers
 
 fn span_line(x: Span) {
-    line(b"span", &[x.address, x.size, 0, 0, 0, 0, 0, 0, 0, 0, 0, 0], 2);
+    line(
+        b"span",
+        &[x.address, x.size, 0, 0, 0, 0, 0, 0, 0, 0, 0, 0],
+        2,
+    );
 }
 
 fn released_line(x: Span) {
-    line(b"released", &[x.address, x.size, 0, 0, 0, 0, 0, 0, 0, 0, 0, 0], 2);
+    line(
+        b"released",
+        &[x.address, x.size, 0, 0, 0, 0, 0, 0, 0, 0, 0, 0],
+        2,
+    );
 }
 
 fn shrunk_line(x: Span) {
-    line(b"shrunk", &[x.address, x.size, 0, 0, 0, 0, 0, 0, 0, 0, 0, 0], 2);
+    line(
+        b"shrunk",
+        &[x.address, x.size, 0, 0, 0, 0, 0, 0, 0, 0, 0, 0],
+        2,
+    );
 }
 
 fn created_line(size: u64, g: u64, pools: usize) {
-    line(b"created", &[size, g, pools as u64, 0, 0, 0, 0, 0, 0, 0, 0, 0], 3);
+    line(
+        b"created",
+        &[size, g, pools as u64, 0, 0, 0, 0, 0, 0, 0, 0, 0],
+        3,
+    );
 }
 
 fn reset_line() {
@@ -92,7 +108,11 @@ fn refusal_number(why: Refusal) -> u64 {
 }
 
 fn refusal_line(why: Refusal) {
-    line(b"refused", &[refusal_number(why), 0, 0, 0, 0, 0, 0, 0, 0, 0, 0, 0], 1);
+    line(
+        b"refused",
+        &[refusal_number(why), 0, 0, 0, 0, 0, 0, 0, 0, 0, 0, 0],
+        1,
+    );
 }
 
 fn answer_line(a: Answer) {
@@ -124,7 +144,7 @@ fn read_pool() -> Pool {
     }
 }
 
-// The record with no entry yet.
+// The record with no entry yet: its head and its pools.
 fn read_state() -> State {
     let mut s = state::zero_state();
     s.size = read_u64();
@@ -200,12 +220,38 @@ fn put_words(words: &mut [u32]) {
 
 fn head_line(s: State) {
     let now = s.immediate as u64;
-    let numbers = [s.size, s.g, s.pools as u64, now, s.w as u64, s.slots as u64, s.arena, s.length, s.live, s.count as u64, 0, 0];
+    let numbers = [
+        s.size,
+        s.g,
+        s.pools as u64,
+        now,
+        s.w as u64,
+        s.slots as u64,
+        s.arena,
+        s.length,
+        s.live,
+        s.count as u64,
+        0,
+        0,
+    ];
     line(b"record", &numbers, 10);
 }
 
 fn pool_line(q: Pool) {
-    let numbers = [q.granularity, q.blocks as u64, q.empty as u64, q.area as u64, q.used as u64, 0, 0, 0, 0, 0, 0, 0];
+    let numbers = [
+        q.granularity,
+        q.blocks as u64,
+        q.empty as u64,
+        q.area as u64,
+        q.used as u64,
+        0,
+        0,
+        0,
+        0,
+        0,
+        0,
+        0,
+    ];
     line(b"pool", &numbers, 5);
 }
 
@@ -220,7 +266,20 @@ fn is_zero(age: usize, b: Block) -> bool {
 }
 
 fn entry_line(i: usize, age: usize, b: Block) {
-    let numbers = [i as u64, age as u64, b.base, b.size, b.pool as u64, b.slot as u64, b.flags as u64, b.area as u64, b.used as u64, b.start as u64, b.end as u64, b.largest as u64];
+    let numbers = [
+        i as u64,
+        age as u64,
+        b.base,
+        b.size,
+        b.pool as u64,
+        b.slot as u64,
+        b.flags as u64,
+        b.area as u64,
+        b.used as u64,
+        b.start as u64,
+        b.end as u64,
+        b.largest as u64,
+    ];
     line(b"entry", &numbers, 12);
 }
 
@@ -264,6 +323,7 @@ fn show_words(name: &[u8], words: &[u32]) {
 
 // ---- cases
 
+// A refused one hands back a record of zeros, and the case goes on with that.
 fn create(used: &mut [u32], stop: &mut [u32]) -> Outcome {
     let size = read_u32();
     let g = read_u32();
@@ -274,13 +334,14 @@ fn create(used: &mut [u32], stop: &mut [u32]) -> Outcome {
     create::create(size, g, flags, w, arena, length, used, stop)
 }
 
+// The answer is written; the record is left.
 fn told(o: Outcome) -> State {
     let answer = o.answer;
     answer_line(answer);
     o.state
 }
 
-// A step: a call by its kind in a trace, or one of the two others.
+// A step: a call by its kind in a trace, an entry of the lists, or all that isn't zero shown.
 fn play(s: State, used: &mut [u32], stop: &mut [u32], kind: u64) -> State {
     if kind == 1 {
         return told(create(used, stop));

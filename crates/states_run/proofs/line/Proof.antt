@@ -1,3 +1,4 @@
+-- `states_run::line` meets its contract. The invariant says nothing: an index below `n` is below 12. The measure is how many numbers are left. Assumes nothing.
 use Prim.Native.Nat.{_-_}
 use borrow.Author.Needs.{needs}
 use Rattle.states_run.proofs.line.Statement.{statement}

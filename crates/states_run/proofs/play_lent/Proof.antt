@@ -1,3 +1,4 @@
+-- `states_run::play_lent` meets its contract. A part of so many words has so many. Assumes nothing.
 use native.Mathlib.Omega.{arith}
 use mathlib.Core.Path.{sym}
 use lib.Seq.{length-take-le}

@@ -1,3 +1,4 @@
+-- `states_run::play_steps` meets its contract. The invariant: the slices keep their lengths. The measure is the bound. Assumes nothing.
 use mathlib.Core.Path.{_≡_}
 use lib.ListN.{length}
 use borrow.Author.Needs.{needs}

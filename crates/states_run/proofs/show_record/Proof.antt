@@ -1,3 +1,4 @@
+-- `states_run::show_record` meets its contract. The invariant says nothing; the measure is how many entries are left. Assumes nothing.
 use Prim.Native.Nat.{_-_}
 use borrow.Author.Needs.{needs}
 use Rattle.states_run.proofs.show_record.Statement.{statement}

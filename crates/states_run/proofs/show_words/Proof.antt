@@ -1,3 +1,4 @@
+-- `states_run::show_words` meets its contract. The invariant says nothing; the measure is how many words are left. Assumes nothing.
 use Prim.Native.Nat.{_-_}
 use lib.ListN.{length}
 use borrow.Author.Needs.{needs}
