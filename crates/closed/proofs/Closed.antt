@@ -41,7 +41,7 @@ use Rattle.closed.proofs.Cases.{Frees as FreesSpan, Cuts, Seeks, Places
 use Rattle.closed.proofs.Sized.{sized-search}
 use Rattle.closed.proofs.Words.{created-long, words-kept}
 use Rattle.closed.proofs.Request.{seeks-ready, seeks-some, seeks-left}
-use Rattle.closed.proofs.Searched.{search-other}
+use Rattle.facts.proofs.Searched.{search-other}
 use Rattle.closed.proofs.Records.{Changed, released-changed, widened-changed}
 use Rattle.closed.proofs.Mark.{mark-good}
 use Rattle.closed.proofs.Make.{make-good}

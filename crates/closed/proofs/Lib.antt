@@ -11,7 +11,6 @@ pub mod Put
 pub mod Enter
 pub mod Leave
 pub mod Records
-pub mod Searched
 pub mod Mark
 pub mod Free
 pub mod Empty

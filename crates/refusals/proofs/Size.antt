@@ -41,8 +41,10 @@ use Rattle.rules.specs.Alloc.{searchPool, markTurn, makeTurn, placeTurn, newTur
 use Rattle.rules.specs.Machine.{Call, alloc}
 use Rattle.facts.proofs.Facts.{unit-g}
 use Rattle.facts.proofs.Search.{Left, search-left}
+use Rattle.facts.proofs.Searched.{OtherBlocks, search-other}
+use Rattle.facts.proofs.Alike.{slot-alike, place-alike, newest-alike}
 use Rattle.refusals.specs.When.{Good, Bad, poolFor, unitsFor, NoneFound, newSize, NoRoom, NoSlot, PastSlot, When, Told}
-use Rattle.refusals.proofs.Search.{Hits, search-hits, search-keeps, lowest-slot-alike, lowest-place-alike, newest-size-alike}
+use Rattle.refusals.proofs.Search.{Hits, search-hits}
 use Rattle.refusals.proofs.Address.{bad-first, bad-answer, good-turn}
 
 -- ---- none found
@@ -91,11 +93,15 @@ module _ (s : State) (u t : List ℕ) (size : ℕ) where
   abbrev r : State
   r = searchPool s u p n .state
 
+  -- s with other blocks
+  only : OtherBlocks s r
+  only = search-other s u p n
+
   w-same : r .w ≡ s .w
-  w-same = search-keeps u p n (λ (x : State). x .w) (λ x i c. refl) s
+  w-same = ap (λ (x : State). x .w) only
 
   unit-same : poolAt r p .granularity ≡ poolAt s p .granularity
-  unit-same = search-keeps u p n (λ (x : State). poolAt x p .granularity) (λ x i c. refl) s
+  unit-same = ap (λ (x : State). poolAt x p .granularity) only
 
   module _ (good : Good s u t) (len : length (s .blocks) ≡ 64) (pos : 0 < z) where
     abbrev shaped : Shaped s (length u) (length t)
@@ -118,10 +124,10 @@ module _ (s : State) (u t : List ℕ) (size : ℕ) where
     -- the search moves nothing, so the new block is that of the table before it
     new-same : newTurn r u t p n (idealSize (newestSize r p) z) ≡ placeTurn r u t p n b (lowestPlace s b) (lowestSlot s)
     new-same =
-        ap (λ (m : ℕ). newTurn r u t p n (idealSize m z)) (newest-size-alike r s (left .count) (left .alike) (search-keeps u p n (λ (x : State). x .size) (λ x i c. refl) s) p)
+        ap (λ (m : ℕ). newTurn r u t p n (idealSize m z)) (ap (λ (x : State). newestSize x p) only ∙ newest-alike s (r .blocks) (left .alike) p)
         ∙ ap₂ (λ (x : Place) (f : Found). placeTurn r u t p n b x f)
-        (lowest-place-alike r s (left .count) (left .alike) (search-keeps u p n (λ (x : State). x .arena) (λ x i c. refl) s) (search-keeps u p n (λ (x : State). x .length) (λ x i c. refl) s) b)
-        (lowest-slot-alike r s (left .count) (left .alike) (search-keeps u p n (λ (x : State). x .slots) (λ x i c. refl) s))
+        (ap (λ (x : State). lowestPlace x b) only ∙ place-alike s (r .blocks) (left .alike) b)
+        (ap lowestSlot only ∙ slot-alike s (r .blocks) (left .alike))
 
     words-same : unitsOf (unitsOf b (poolAt r p .granularity)) 32 ≡ unitsOf (unitsOf b (poolAt s p .granularity)) 32
     words-same = ap (λ (g : ℕ). unitsOf (unitsOf b g) 32) unit-same

@@ -1,0 +1,13 @@
+pub mod Spans
+pub mod Answers
+pub mod Addresses
+pub mod Never
+pub mod Counts
+pub mod First
+pub mod Freed
+pub mod Again
+pub mod Restored
+pub mod Unmade
+pub mod Back
+pub mod Seen
+pub mod T1

@@ -1,0 +1,4 @@
+pub mod Apart
+pub mod Counts
+pub mod Alloc
+pub mod Back

@@ -1,0 +1,146 @@
+-- An allocation in a sound state: the ways that it can go, and that each of them is right. Assumes nothing.
+use Prim.Native.Nat.{ℕ, zero, suc, _+_, _-_, _*_, _≤_, _<_}
+use mathlib.Core.List.{List, [], _∷_}
+use mathlib.Core.Bool.{Bool, true, false, not, _&&_}
+use mathlib.Core.Logic.{_⊎_, inl, inr, ⊎-elim}
+use mathlib.Core.Path.{_≡_, refl, sym, ap, ap₂, subst, subst₂, _∙_}
+use native.Mathlib.Omega.{arith}
+use lib.Dec.{leb, ltb, eqb}
+use lib.ListN.{length, set, replicate}
+use lib.Seq.{getD-set-same, getD-set-other}
+use borrow.Author.Tests.{leb-true, le-leb, eqb-false, not-true}
+use Rattle.numbers.specs.Pick.{pick}
+use Rattle.numbers.specs.Units.{unitsOf, bytesOf}
+use Rattle.numbers.proofs.Split.{by-eq, by-le, not-both}
+use Rattle.bits.specs.Bits.{bit, filled}
+use Rattle.slots.specs.Slots.{slotOf, putSlot, fillSlot}
+use Rattle.slots.proofs.Laws.{slot-own, slot-other, length-slot}
+use Rattle.bits.proofs.Fill.{length-filled}
+use Rattle.block.specs.declared.Block.{Block}
+use Rattle.block.specs.Marking.{marked, fresh}
+use Rattle.runs.specs.Window.{Lowest}
+use Rattle.sizes.specs.declared.Rounded.{Rounded}
+use Rattle.sizes.specs.declared.Rounded.the-variants.{To, Refused as tooBad}
+use Rattle.sizes.specs.Sizes.{rounded}
+use Rattle.sizes.specs.declared.Pool.{Pool}
+use Rattle.sizes.specs.Pools.{poolOf}
+use Rattle.state.specs.declared.State.{State}
+use Rattle.state.specs.declared.Span.{Span}
+use Rattle.state.specs.declared.Found.{Found}
+use Rattle.state.specs.declared.Found.the-variants.{At as slotAt, Nothing}
+use Rattle.state.specs.declared.Place.{Place}
+use Rattle.state.specs.declared.Place.the-variants.{Address, Nowhere as noPlace}
+use Rattle.state.specs.declared.Hit.{Hit}
+use Rattle.state.specs.declared.Hit.the-variants.{At, Nowhere}
+use Rattle.state.specs.declared.Refusal.the-variants.{InvalidArgument, TooLarge, NoMapping}
+use Rattle.state.specs.declared.Answer.the-variants.{Granted, Refused}
+use Rattle.state.specs.Table.{zeroBlock, blockAt, poolAt, all}
+use Rattle.state.specs.Shape.{goodShape, isEmpty}
+use Rattle.state.specs.Find.{lookup, lowestPlace, lowestSlot, slotFree, placeAt, placeFree, clear}
+use Rattle.state.specs.Change.{inserted}
+use Rattle.state.proofs.Tests.{and-right, all-at}
+use Rattle.shape.specs.Shaped.{Shaped}
+use Rattle.shape.proofs.Shaped.{shaped-is}
+use Rattle.shape.proofs.Address.{apart-is}
+use Rattle.facts.proofs.Facts.{unit-g, pool-3}
+use Rattle.facts.proofs.Room.{slot-is, room-left}
+use Rattle.facts.proofs.Keep.{Same}
+use Rattle.facts.proofs.Search.{Left}
+use Rattle.rules.specs.Turn.{Turn, turn, refuse, span, unitOf, clearSlot}
+use Rattle.rules.specs.Alloc.{markTurn, makeTurn, placeTurn, searchedTurn, sizeTurn, allocTurn}
+use Rattle.facts.specs.Ready.{Allocates}
+use Rattle.facts.proofs.Pool.{whole}
+use Rattle.paint.specs.Paint.{Piece, piece, Sound as SoundBlock}
+use Rattle.paint.proofs.Sound.{fresh-sound}
+use Rattle.closed.specs.Sized.{Sized}
+use Rattle.closed.proofs.Cases.{Seeks, Places, poolFor, unitsFor, searchFor, newSize}
+use Rattle.closed.proofs.Sized.{sized-search}
+use Rattle.closed.proofs.Request.{seeks-some, seeks-pool, seeks-left, seeks-ready}
+use Rattle.closed.proofs.Make.{place-found, make-good}
+use Rattle.sizes.proofs.Pools.{pool-below}
+use Rattle.ledger.specs.Ledger.{In, enter}
+use Rattle.ledger.specs.Agrees.{within, view, viewOf, at, Homes, Agrees, Sound}
+use Rattle.ledger.proofs.View.{in-unit, view-new, view-other}
+use Rattle.ledger.proofs.Table.{Stands, Beside, beside-swap, beside-out, stands-of, slot-room, homes-set, set-stands, sound-moved}
+use Rattle.ledger.proofs.Calls.{marked-keeps, mark-agrees}
+use Rattle.ledger.proofs.Grow.{view-none, add-agrees}
+use Rattle.ledger.proofs.Cleared.{zeros, long, clear-own, clear-other, clear-length}
+use Rattle.ledger.proofs.Search.{Ready, Combed, search-combed}
+use Rattle.ledger.proofs.Finds.{not-bad, shaped, stands}
+use Rattle.ledger.proofs.Right.{Right, right-of}
+
+-- ---- the ways that an allocation can go
+-- why a new block can't be made
+abbrev pub Short : State → ℕ → ℕ → Type 0
+Short r p bytes =
+    (lowestPlace r (newSize r p bytes) ≡ noPlace) ⊎ ((lowestSlot r ≡ Nothing) ⊎ (r .w < unitsOf (unitsOf (newSize r p bytes) (poolAt r p .granularity)) 32))
+
+pub data Goes (s : State) (u t : List ℕ) (size : ℕ) : Type 0 where
+  refused : (k : ℕ) → rounded size (s .g) ≡ tooBad k → allocTurn s u t size ≡ refuse (pick (eqb k 1) InvalidArgument TooLarge) s u t → Goes s u t size
+  hit : (bytes j i : ℕ) → Seeks s u t size bytes → searchFor s u bytes .hit ≡ At j i
+      → allocTurn s u t size ≡ markTurn (searchFor s u bytes .state) u t j i (unitsFor s bytes) → Goes s u t size
+  full : (bytes : ℕ) → Seeks s u t size bytes → searchFor s u bytes .hit ≡ Nowhere → Short (searchFor s u bytes .state) (poolFor s bytes) bytes
+      → allocTurn s u t size ≡ refuse NoMapping (searchFor s u bytes .state) u t → Goes s u t size
+  made : (bytes at slot : ℕ) → Seeks s u t size bytes → searchFor s u bytes .hit ≡ Nowhere → Places (searchFor s u bytes .state) (poolFor s bytes) bytes at slot
+      → allocTurn s u t size ≡ makeTurn (searchFor s u bytes .state) u t (poolFor s bytes) (unitsFor s bytes) (newSize (searchFor s u bytes .state) (poolFor s bytes) bytes) at slot
+      → Goes s u t size
+
+leb-false : (a b : ℕ) → leb a b ≡ false → b < a
+leb-false a b z = by-le a b (λ h. absurd (not-both (leb a b) (le-leb a b h) z)) (λ h. h)
+
+module _ (s : State) (u t : List ℕ) (size : ℕ) (good : goodShape s (length u) (length t) ≡ true) where
+  sized-turn : allocTurn s u t size ≡ sizeTurn s u t (rounded size (s .g))
+  unfolding allocTurn
+  sized-turn = not-bad (goodShape s (length u) (length t)) good _ _
+
+  placed : (bytes : ℕ) → Seeks s u t size bytes → searchFor s u bytes .hit ≡ Nowhere → (x : Place) (f : Found)
+      → lowestPlace (searchFor s u bytes .state) (newSize (searchFor s u bytes .state) (poolFor s bytes) bytes) ≡ x → lowestSlot (searchFor s u bytes .state) ≡ f
+      → allocTurn s u t size ≡ placeTurn (searchFor s u bytes .state) u t (poolFor s bytes) (unitsFor s bytes) (newSize (searchFor s u bytes .state) (poolFor s bytes) bytes) x f
+      → Goes s u t size
+  placed bytes k e (Address at) (slotAt slot) ex ef q =
+      let r = searchFor s u bytes .state in
+      let p = poolFor s bytes in
+      let words = unitsOf (unitsOf (newSize r p bytes) (poolAt r p .granularity)) 32 in
+      go (leb words (r .w)) refl
+    where
+      go : (c : Bool)
+          → leb (unitsOf (unitsOf (newSize (searchFor s u bytes .state) (poolFor s bytes) bytes) (poolAt (searchFor s u bytes .state) (poolFor s bytes) .granularity)) 32) (searchFor s u bytes .state .w) ≡ c
+          → Goes s u t size
+      go true z =
+          made bytes at slot k e (record { place = sym ex; free = sym ef; words = leb-true _ _ z })
+          (q ∙ ap (λ (c : Bool). pick c (makeTurn (searchFor s u bytes .state) u t (poolFor s bytes) (unitsFor s bytes) (newSize (searchFor s u bytes .state) (poolFor s bytes) bytes) at slot) (refuse NoMapping (searchFor s u bytes .state) u t)) z)
+      go false z =
+          full bytes k e (inr (inr (leb-false _ _ z)))
+          (q ∙ ap (λ (c : Bool). pick c (makeTurn (searchFor s u bytes .state) u t (poolFor s bytes) (unitsFor s bytes) (newSize (searchFor s u bytes .state) (poolFor s bytes) bytes) at slot) (refuse NoMapping (searchFor s u bytes .state) u t)) z)
+  placed bytes k e (Address at) Nothing ex ef q = full bytes k e (inr (inl ef)) q
+  placed bytes k e noPlace f ex ef q = full bytes k e (inl ex) q
+
+  pub goes : Goes s u t size
+  goes = go (rounded size (s .g)) refl
+    where
+      searched : (bytes : ℕ) → Seeks s u t size bytes → (h : Hit) → searchFor s u bytes .hit ≡ h
+          → allocTurn s u t size ≡ searchedTurn (searchFor s u bytes .state) u t (poolFor s bytes) (unitsFor s bytes) bytes h → Goes s u t size
+      searched bytes k (At j i) e q = hit bytes j i k e q
+      searched bytes k Nowhere e q = placed bytes k e _ _ refl refl q
+
+      go : (x : Rounded) → rounded size (s .g) ≡ x → Goes s u t size
+      go (To bytes) e =
+          searched bytes (record { good = good; is = e }) (searchFor s u bytes .hit) refl (sized-turn ∙ ap (sizeTurn s u t) e)
+      go (tooBad k) e = refused k e (sized-turn ∙ ap (sizeTurn s u t) e)
+
+-- ---- a span marked in a block of r, which the search left
+module _ (r : State) (u t : List ℕ) (l : List Span) (p n : ℕ) (pos : 0 < n) (f : Shaped r (length u) (length t)) (rd : Ready u t l p n pos r) (live : r .live ≡ length l) where
+  pub mark-right : (j i : ℕ) → j < r .count → i + n ≤ blockAt r j .area → ((k : ℕ) → i ≤ k → k < i + n → bit (slotOf (r .w) (blockAt r j .slot) u) k ≡ 0)
+      → Right l (markTurn r u t j i n)
+  mark-right j i h fits free =
+      let b = blockAt r j in
+      let st = rd .stands in
+      let unit = unit-g r (length u) (length t) f (b .pool) (pool-3 r (length u) (length t) f j h) in
+      let z = mark-agrees (r .g) (r .w) (r .slots) (r .count) (r .blocks) u t st l (rd .agrees) j h (rd .ends j h) i n pos fits free in
+      let w = set-stands (r .g) (r .w) (r .slots) (r .count) (r .blocks) (length u) (length t) st j h (marked b i (i + n))
+      (marked-keeps (λ c. c .base) b (λ a d e f k. refl) i (i + n)) (marked-keeps (λ c. c .size) b (λ a d e f k. refl) i (i + n))
+      (marked-keeps (λ c. c .slot) b (λ a d e f k. refl) i (i + n)) (marked-keeps (λ c. c .area) b (λ a d e f k. refl) i (i + n)) in
+      right-of l (markTurn r u t j i n) (st .unit) (w .whole)
+      (subst (λ (g : ℕ). Agrees (r .g) (r .w) (r .slots) (r .count) (set (r .blocks) j (marked b i (i + n))) (fillSlot (r .w) (b .slot) u i (i + n - i) 1)
+      (fillSlot (r .w) (b .slot) t (i + n - 1) 1 1) (span (b .base + i * g) (n * g) ∷ l)) (sym unit) z)
+      (omega (arith, live))

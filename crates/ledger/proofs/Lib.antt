@@ -1,0 +1,15 @@
+pub mod View
+pub mod Table
+pub mod Calls
+pub mod Look
+pub mod Count
+pub mod Grow
+pub mod Cleared
+pub mod Search
+pub mod Finds
+pub mod Right
+pub mod Alloc
+pub mod Made
+pub mod Step
+pub mod Words
+pub mod Reached

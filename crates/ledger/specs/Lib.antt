@@ -1,0 +1,4 @@
+pub mod Ledger
+pub mod Agrees
+pub mod First
+pub mod Reached
