@@ -334,45 +334,46 @@ fn create(used: &mut [u32], stop: &mut [u32]) -> Outcome {
     create::create(size, g, flags, w, arena, length, used, stop)
 }
 
-// The answer is written; the record is left.
-fn told(o: Outcome) -> State {
-    let answer = o.answer;
-    answer_line(answer);
-    o.state
-}
-
-// A step: a call by its kind in a trace, an entry of the lists, or all that isn't zero shown.
-fn play(s: State, used: &mut [u32], stop: &mut [u32], kind: u64) -> State {
+// The calls by their kinds in a trace.
+fn call(s: State, used: &mut [u32], stop: &mut [u32], kind: u64) -> Outcome {
     if kind == 1 {
-        return told(create(used, stop));
+        return create(used, stop);
     }
     if kind == 2 {
-        return told(alloc::alloc(s, used, stop, read_u64()));
+        return alloc::alloc(s, used, stop, read_u64());
     }
     if kind == 3 {
-        return told(release::release(s, used, stop, read_u64()));
+        return release::release(s, used, stop, read_u64());
     }
     if kind == 4 {
         let address = read_u64();
-        return told(shrink::shrink(s, used, stop, address, read_u64()));
+        return shrink::shrink(s, used, stop, address, read_u64());
     }
     if kind == 5 {
-        answer_line(query::query(s, used, stop, read_u64()));
-        return s;
+        let answer = query::query(s, used, stop, read_u64());
+        return Outcome { answer, state: s };
     }
     if kind == 6 {
-        return told(reset::soft_reset(s, used, stop));
+        return reset::soft_reset(s, used, stop);
     }
-    if kind == 7 {
-        return told(reset::hard_reset(s, used, stop));
-    }
+    reset::hard_reset(s, used, stop)
+}
+
+// A step: a call, an entry of the lists, or all that isn't zero shown.
+fn play(s: State, used: &mut [u32], stop: &mut [u32], kind: u64) -> State {
     if kind == 8 {
         return put_entry(s);
     }
-    show_record(s);
-    show_words(b"used", used);
-    show_words(b"stop", stop);
-    s
+    if kind == 9 {
+        show_record(s);
+        show_words(b"used", used);
+        show_words(b"stop", stop);
+        return s;
+    }
+    let o = call(s, used, stop, kind);
+    let answer = o.answer;
+    answer_line(answer);
+    o.state
 }
 
 // How often a loop turns at most: with a bound it ends whatever the input is.
