@@ -15,7 +15,8 @@ use Rattle.shape.specs.Shaped.{Shaped}
 use Rattle.facts.proofs.Facts.{count-64, slot-room, pool-3}
 use Rattle.rules.specs.Turn.{turn, refuse}
 use Rattle.rules.specs.Reset.{emptyTable, clearBlocks, kept, resetTurn}
-use Rattle.reset.specs.Ready.{Clearable, Keepable}
+use Rattle.kept.specs.Ready.{Keepable}
+use Rattle.reset.specs.Ready.{Clearable}
 
 module _ (s : State) (u t : ℕ) (f : Shaped s u t) where
   pub clearable-used : Clearable s u

@@ -1,4 +1,4 @@
--- What the calls show, of a state that has its shape, before its slots are cleared and before its blocks are kept. Assumes nothing.
+-- What the calls show, of a state that has its shape, before its slots are cleared. Assumes nothing.
 use Prim.Native.Nat.{ℕ, _+_, _*_, _^_, _≤_, _<_}
 use Rattle.state.specs.declared.State.{State}
 use Rattle.state.specs.Table.{blockAt}
@@ -8,9 +8,3 @@ pub record Clearable (s : State) (words : ℕ) : Type 0 where
   pub few : s .count ≤ 64
   pub narrow : s .w < 2 ^ 32
   pub room : (i : ℕ) → i < s .count → (blockAt s i .slot + 1) * s .w ≤ words
-
--- a block alone fits its pool's sums
-pub record Keepable (s : State) : Type 0 where
-  pub few : s .count ≤ 64
-  pub pool : (i : ℕ) → i < s .count → blockAt s i .pool < 3
-  pub area : (i : ℕ) → i < s .count → blockAt s i .area < 2 ^ 31

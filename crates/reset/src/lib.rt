@@ -1,6 +1,4 @@
 // The calls soft reset and hard reset.
-use block::Block;
-use sizes::Pool;
 use state::Answer;
 use state::Outcome;
 use state::Refusal;
@@ -8,12 +6,9 @@ use state::State;
 ghost use mathlib.Core.Path.{_≡_};
 ghost use mathlib.Core.Bool.{true, false};
 ghost use lib.ListN.{length};
-ghost use Rattle.numbers.specs.Pick.{pick};
-ghost use Rattle.block.specs.Marking.{emptied};
-ghost use Rattle.change.specs.Ready.{Enters};
 ghost use Rattle.rules.specs.Turn.{turn};
-ghost use Rattle.rules.specs.Reset.{emptyTable, clearBlocks, keep, kept, resetTurn};
-ghost use Rattle.reset.specs.Ready.{Clearable, Keepable};
+ghost use Rattle.rules.specs.Reset.{clearBlocks, resetTurn};
+ghost use Rattle.reset.specs.Ready.{Clearable};
 
 // The slots of all standing blocks cleared in one map. No word of another slot is written.
 fn clear_blocks(s: State, words: &mut [u32])
@@ -28,85 +23,6 @@ fn clear_blocks(s: State, words: &mut [u32])
     }
 }
 
-// The record with no block.
-fn empty_table(s: State) -> State
-    ensures { λ r. ⌜ r ≡ emptyTable s ⌝ }
-{
-    State {
-        size: s.size,
-        g: s.g,
-        pools: s.pools,
-        immediate: s.immediate,
-        w: s.w,
-        slots: s.slots,
-        arena: s.arena,
-        length: s.length,
-        live: 0,
-        count: 0,
-        blocks: [state::zero_block(); 64],
-        order: [0; 64],
-        pool: [Pool::new(s.g); 3],
-    }
-}
-
-// A block's record with no unit used.
-fn emptied_record(b: Block) -> Block
-    ensures { λ r. ⌜ r ≡ emptied b ⌝ }
-{
-    let mut r = b;
-    r.flags = (b.flags | Block::FLAG_EMPTY) & !Block::FLAG_DIRTY;
-    r.used = 0;
-    r.start = 0;
-    r.end = b.area;
-    r.largest = b.area;
-    r
-}
-
-// A block enters a table as its pool's one empty block.
-fn keep_block(r: State, b: Block) -> State
-    requires { ⌜ Enters r (emptied b) ⌝ }
-    ensures { λ x. ⌜ x ≡ keep r b ⌝ }
-{
-    let fresh = emptied_record(b);
-    let mut x = change::insert_block(r, fresh);
-    let p = b.pool;
-    let mut pool = x.pool[p];
-    pool.empty = 1;
-    x.pool[p] = pool;
-    x
-}
-
-// The record with each pool's oldest block. `seen` has the pools of the blocks passed, so that a block is its pool's oldest if its pool is not there yet.
-fn keep_oldest(s: State) -> State
-    requires { ⌜ Keepable s ⌝ }
-    ensures { λ r. ⌜ r ≡ kept s (s .count) ⌝ }
-{
-    let mut r = empty_table(s);
-    let mut seen = [false; 3];
-    let mut i: usize = 0;
-    while i < s.count {
-        let b = s.blocks[i];
-        let p = b.pool;
-        if !seen[p] {
-            seen[p] = true;
-            r = keep_block(r, b);
-        }
-        i += 1;
-    }
-    r
-}
-
-// What a soft reset leaves of the table. Under immediate release no empty block stays.
-fn soften(s: State) -> State
-    requires { ⌜ Keepable s ⌝ }
-    ensures { λ r. ⌜ r ≡ pick (s .immediate) (emptyTable s) (kept s (s .count)) ⌝ }
-{
-    if s.immediate {
-        return empty_table(s);
-    }
-    keep_oldest(s)
-}
-
 // All blocks go.
 pub fn hard_reset(s: State, used: &mut [u32], stop: &mut [u32]) -> Outcome
     ensures { λ r. ⌜ turn (r .answer) (r .state) (now (used .exit)) (now (stop .exit)) ≡ resetTurn s (now (used .entry)) (now (stop .entry)) true ⌝ }
@@ -116,7 +32,7 @@ pub fn hard_reset(s: State, used: &mut [u32], stop: &mut [u32]) -> Outcome
     }
     clear_blocks(s, used);
     clear_blocks(s, stop);
-    let state = empty_table(s);
+    let state = kept::empty_table(s);
     let answer = Answer::Reset;
     Outcome { answer, state }
 }
@@ -130,7 +46,7 @@ pub fn soft_reset(s: State, used: &mut [u32], stop: &mut [u32]) -> Outcome
     }
     clear_blocks(s, used);
     clear_blocks(s, stop);
-    let state = soften(s);
+    let state = kept::soften(s);
     let answer = Answer::Reset;
     Outcome { answer, state }
 }

@@ -1,75 +1,13 @@
 // The call shrink.
-use state::Answer;
 use state::Found;
 use state::Held;
 use state::Outcome;
 use state::Refusal;
-use state::Span;
 use state::State;
 ghost use mathlib.Core.Path.{_≡_};
-ghost use Prim.Native.Nat.{_-_, _<_, _≤_};
 ghost use lib.ListN.{length};
-ghost use Rattle.numbers.specs.Units.{unitsOf};
-ghost use Rattle.block.specs.Record.{SpanIn};
-ghost use Rattle.block.specs.Marking.{markShrunk};
-ghost use Rattle.state.specs.declared.Answer.{Answer};
-ghost use Rattle.state.specs.Table.{blockAt};
-ghost use Rattle.shape.specs.Shaped.{Shaped};
-ghost use Rattle.rules.specs.Turn.{turn, unitOf};
-ghost use Rattle.rules.specs.Release.{lessUsed};
-ghost use Rattle.rules.specs.Shrink.{unitsTurn, shrinkTurn};
-
-// The tail of a span of block `j`, from unit `from` up to `to`, goes.
-fn cut_off(s: State, used: &mut [u32], stop: &mut [u32], j: usize, from: u32, to: u32) -> State
-    requires { ⌜ Shaped s (length (now used)) (length (now stop)) × (j < s .count) × SpanIn (blockAt s j) from to ⌝ }
-    requires { ⌜ (to - from ≤ blockAt s j .used) × (0 < from) ⌝ }
-    ensures { λ r. ⌜ ((a : Answer) → turn a r (now (used .exit)) (now (stop .exit))
-        ≡ turn a (lessUsed s j (markShrunk (s .w) (blockAt s j) from to (now (used .entry)) (now (stop .entry)) .block) (to - from))
-        (markShrunk (s .w) (blockAt s j) from to (now (used .entry)) (now (stop .entry)) .used)
-        (markShrunk (s .w) (blockAt s j) from to (now (used .entry)) (now (stop .entry)) .stop)) ⌝ }
-{
-    let b = s.blocks[j];
-    let less = mark::mark_shrunk_area(b, used, stop, s.w, from, to);
-    settle::less_used(s, j, less, to - from)
-}
-
-// The span of block `j` from unit `i` up to `e` keeps what `size` bytes take. A size may be too large to be turned into units, so the
-// two are compared in bytes.
-fn keep(
-    s: State,
-    used: &mut [u32],
-    stop: &mut [u32],
-    address: u64,
-    size: u64,
-    j: usize,
-    i: u32,
-    e: u32,
-) -> Outcome
-    requires { ⌜ Shaped s (length (now used)) (length (now stop)) × (j < s .count) × SpanIn (blockAt s j) i e ⌝ }
-    requires { ⌜ (e - i ≤ blockAt s j .used) × (0 < size) ⌝ }
-    ensures { λ r. ⌜ turn (r .answer) (r .state) (now (used .exit)) (now (stop .exit))
-        ≡ unitsTurn s (now (used .entry)) (now (stop .entry)) address j i e (unitsOf size (unitOf s (blockAt s j))) ⌝ }
-{
-    let b = s.blocks[j];
-    let p = b.pool;
-    let pool = s.pool[p];
-    let unit = pool.granularity;
-    let whole = numbers::byte_size_from_area_size(e - i, unit);
-    if whole < size {
-        return state::refused(s, Refusal::InvalidState);
-    }
-    let n = numbers::area_size_from_byte_size(size, unit);
-    let kept = numbers::byte_size_from_area_size(n, unit);
-    let answer = Answer::Shrunk(Span {
-        address,
-        size: kept,
-    });
-    if n == e - i {
-        return Outcome { answer, state: s };
-    }
-    let state = cut_off(s, used, stop, j, i + n, e);
-    Outcome { answer, state }
-}
+ghost use Rattle.rules.specs.Turn.{turn};
+ghost use Rattle.rules.specs.Shrink.{shrinkTurn};
 
 // The span that starts at an address keeps the units that `size` bytes take; without a byte it goes.
 pub fn shrink(s: State, used: &mut [u32], stop: &mut [u32], address: u64, size: u64) -> Outcome
@@ -100,7 +38,7 @@ pub fn shrink(s: State, used: &mut [u32], stop: &mut [u32], address: u64, size: 
             if b.used < e - i {
                 return state::refused(s, Refusal::Damaged);
             }
-            keep(s, used, stop, address, size, j, i, e)
+            cut::keep(s, used, stop, address, size, j, i, e)
         }
     }
 }

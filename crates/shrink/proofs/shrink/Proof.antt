@@ -16,7 +16,7 @@ use Rattle.shape.proofs.Shaped.{shaped-is}
 use Rattle.rules.specs.Turn.{turn, unitOf}
 use Rattle.rules.specs.Shrink.{shrunkTurn, cutDownTurn, shrinkTurn}
 use Rattle.facts.proofs.Facts.{count-64, ordered, placed, pool-3, within, found-in, held-in-range}
-use Rattle.shrink.proofs.Cases.{shrunk-damaged, shrunk-units, shrink-none}
+use Rattle.cut.proofs.Cases.{shrunk-damaged, shrunk-units, shrink-none}
 use borrow.Author.Needs.{needs}
 use Rattle.shrink.proofs.shrink.Statement.{statement}
 use Rattle.shrink.proofs.shrink.Tie as tie

@@ -24,7 +24,7 @@ use Rattle.change.specs.Ready.{Enters}
 use Rattle.change.proofs.Shift.{moved-below, moved-here, moved-above, or-else-le}
 use Rattle.rules.specs.Turn.{withCounts}
 use Rattle.rules.specs.Reset.{emptyTable, oldest, keep, kept}
-use Rattle.reset.specs.Ready.{Keepable}
+use Rattle.kept.specs.Ready.{Keepable}
 
 -- ---- one block more
 pub kept-none : (s : State) → emptyTable s ≡ kept s 0

@@ -9,8 +9,8 @@ use Rattle.rules.specs.Release.{lessUsed}
 use Rattle.facts.proofs.Facts.{placed}
 use Rattle.facts.proofs.Leaves.{less-ready}
 use borrow.Author.Needs.{needs}
-use Rattle.shrink.proofs.cut_off.Statement.{statement}
-use Rattle.shrink.proofs.cut_off.Tie as tie
+use Rattle.cut.proofs.cut_off.Statement.{statement}
+use Rattle.cut.proofs.cut_off.Tie as tie
 
 mul-b : tie.Need-mul-b
 mul-b c = search needs

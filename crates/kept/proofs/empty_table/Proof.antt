@@ -1,6 +1,6 @@
 use borrow.Author.Needs.{needs}
-use Rattle.reset.proofs.empty_table.Statement.{statement}
-use Rattle.reset.proofs.empty_table.Tie as tie
+use Rattle.kept.proofs.empty_table.Statement.{statement}
+use Rattle.kept.proofs.empty_table.Tie as tie
 
 zero-block-requires : tie.Need-zero-block-requires
 zero-block-requires c κs = search needs

@@ -10,9 +10,9 @@ use lib.ListN.{getD}
 use Rattle.state.specs.declared.State.{State}
 use Rattle.state.specs.Table.{blockAt}
 use Rattle.rules.specs.Reset.{kept, keep}
-use Rattle.reset.proofs.Kept.{Keeping, keeping-start, keeping-enters, keeping-keep, keeping-skip}
-use Rattle.reset.proofs.keep_oldest.Statement.{statement}
-use Rattle.reset.proofs.keep_oldest.Tie as tie
+use Rattle.kept.proofs.Kept.{Keeping, keeping-start, keeping-enters, keeping-keep, keeping-skip}
+use Rattle.kept.proofs.keep_oldest.Statement.{statement}
+use Rattle.kept.proofs.keep_oldest.Tie as tie
 
 abbrev Inv-loop : tie.InvT-loop
 Inv-loop s r₀ seen₀ i₀ r seen i = Keeping s i r seen

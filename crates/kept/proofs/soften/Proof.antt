@@ -1,7 +1,7 @@
 use mathlib.Core.Path.{_∙_}
 use borrow.Author.Needs.{needs}
-use Rattle.reset.proofs.soften.Statement.{statement}
-use Rattle.reset.proofs.soften.Tie as tie
+use Rattle.kept.proofs.soften.Statement.{statement}
+use Rattle.kept.proofs.soften.Tie as tie
 
 empty-table-requires : tie.Need-empty-table-requires
 empty-table-requires c κs = search needs

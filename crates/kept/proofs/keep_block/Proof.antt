@@ -2,8 +2,8 @@ use mathlib.Core.Path.{sym, subst}
 use Rattle.block.specs.declared.Block.{Block}
 use Rattle.change.specs.Ready.{Enters}
 use borrow.Author.Needs.{needs}
-use Rattle.reset.proofs.keep_block.Statement.{statement}
-use Rattle.reset.proofs.keep_block.Tie as tie
+use Rattle.kept.proofs.keep_block.Statement.{statement}
+use Rattle.kept.proofs.keep_block.Tie as tie
 
 emptied-record-requires : tie.Need-emptied-record-requires
 emptied-record-requires c κs = search needs

@@ -10,10 +10,10 @@ use Rattle.state.specs.Table.{blockAt}
 use Rattle.rules.specs.Turn.{turn, unitOf, span}
 use Rattle.rules.specs.Shrink.{unitsTurn}
 use Rattle.facts.proofs.Facts.{pool-3, unit-g, bytes-fit}
-use Rattle.shrink.proofs.Cases.{units-over, units-within, units-some, more-units, same-units, fewer-units}
+use Rattle.cut.proofs.Cases.{units-over, units-within, units-some, more-units, same-units, fewer-units}
 use borrow.Author.Needs.{needs}
-use Rattle.shrink.proofs.keep.Statement.{statement}
-use Rattle.shrink.proofs.keep.Tie as tie
+use Rattle.cut.proofs.keep.Statement.{statement}
+use Rattle.cut.proofs.keep.Tie as tie
 
 pool-low : (c : tie.Start) → blockAt (c .args .t1) (c .args .j) .pool < 3
 pool-low c = let a = c .args in pool-3 (a .t1) (length (a .used .now)) (length (a .stop .now)) (c .pre .0 .0) (a .j) (c .pre .0 .1)
