@@ -142,37 +142,6 @@ pub fn next_range(words: &[u32], from: usize, left: u32, end: usize, hint: usize
     )
 }
 
-// The walk that keeps hold of the words it reads, as in the Rust. Its functions are thin over `next_range`: one takes it apart, one makes it.
-pub struct BitVectorRangeIterator<'a> {
-    pub slice: &'a [u32],
-    pub at: usize,
-    pub word: u32,
-    pub end: usize,
-}
-
-pub fn held_next<'a>(r: BitVectorRangeIterator<'a>, hint: usize) -> Next
-    requires { ⌜ Stands (now (r .slice)) (r .at) (r .end) ⌝ }
-    ensures { λ s. ⌜ Answer (now (r .entry .slice)) (r .entry .at) (r .entry .word) (r .entry .end) hint s ⌝ }
-{
-    next_range(r.slice, r.at, r.word, r.end, hint)
-}
-
-// A step of the held walk for a caller whose own parameters are plain, as the search.
-pub fn step(slice: &[u32], at: usize, left: u32, end: usize, hint: usize) -> Next
-    requires { ⌜ Stands (now slice) at end ⌝ }
-    ensures { λ r. ⌜ Answer (now (slice .entry)) at left end hint r ⌝ }
-{
-    held_next(
-        BitVectorRangeIterator {
-            slice,
-            at,
-            word: left,
-            end,
-        },
-        hint,
-    )
-}
-
 // What a search in a window finds: the lowest place; or else the window's first free unit, the end of its last free run and its longest
 // free run; or no free unit at all.
 pub enum Search {

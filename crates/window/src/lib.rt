@@ -42,7 +42,7 @@ pub fn search_window(words: &[u32], start: usize, end: usize, n: usize) -> Searc
     let mut first = start;
     let mut longest: usize = 0;
     while from < end {
-        let got = runs::step(words, at, word, end, n);
+        let got = held::step(words, at, word, end, n);
         let Next::Run(s, e, next) = got else {
             return closed(first, from, longest);
         };

@@ -1,4 +1,4 @@
--- `runs::held_next` meets its contract: a walk of its MIR, by hand. The struct is taken apart, and `next_range` is called on the slice and the
+-- `held::held_next` meets its contract: a walk of its MIR, by hand. The struct is taken apart, and `next_range` is called on the slice and the
 -- numbers. All that the proof knows of `next_range` is that it meets its contract. The struct is Copy: what it owns is had twice, one copy is
 -- kept whole for the exit, and of the other what slice owns goes to the callee, beside the lifetime's token, which comes back. Assumes nothing.
 use mathlib.Core.Path.{_≡_, refl}
@@ -43,21 +43,21 @@ use denote.Triple.Table.{entered, cited}
 use denote.Triple.Walked.{says, needs, Stays, stay-none, walkOf, goes-none, Walks, ends-at, walked, walk-meets}
 use denote.Exit.{yes}
 use denote.Triple.Clauses.{ensured, lasts}
 use Rattle.runs.specs.Walk.{Stands, Answer}
-use Rattle.runs.specs.declared.BitVectorRangeIterator.{BitVectorRangeIterator}
+use Rattle.held.specs.declared.BitVectorRangeIterator.{BitVectorRangeIterator}
 use Rattle.runs.specs.declared.Next.{Next}
-use Rattle.runs.proofs.BitVectorRangeIterator as T
-use Rattle.runs.proofs.BitVectorRangeIterator.Laws as T′
+use Rattle.held.proofs.BitVectorRangeIterator as T
+use Rattle.held.proofs.BitVectorRangeIterator.Laws as T′
 use Rattle.runs.proofs.Next as S
 use Rattle.runs.proofs.Next.Laws as S′
 use Rattle.runs.proofs.next_range as range
 use Rattle.runs.proofs.next_range.Symbol as range-def
 use Rattle.runs.proofs.next_range.Symbol.{name as #runs·next-range}
 use Rattle.runs.proofs.next_range.Met as range-thm
-use Rattle.runs.proofs.held_next.Key.{name as #runs·held-next}
-use Rattle.runs.proofs.held_next as held
-use Rattle.runs.proofs.held_next.Statement as stated
-use Rattle.runs.proofs.held_next.Code as code
+use Rattle.held.proofs.held_next.Key.{name as #held·held-next}
+use Rattle.held.proofs.held_next as held
+use Rattle.held.proofs.held_next.Statement as stated
+use Rattle.held.proofs.held_next.Code as code
 
 -- the struct's type, over the signature's lifetimes
 abbrev B : Lfts 1 → RattleType
@@ -171,6 +171,6 @@ pub held-next-spec : {M : Type 1} → stated.statement M
 unfolding code.routine tablesOf
 held-next-spec 𝓤 H 𝓜 𝓖 𝓡 =
     entered 𝓤 H (tripleOf 𝓤 H (𝓖 .A) held.signature (held.spec 𝓤 H (𝓖 .A) (𝓜 .mem) (𝓡 .run)))
-    (tables 𝓤 H 𝓜 𝓡 code.env .C) (tables 𝓤 H 𝓜 𝓡 code.env .Λ) #runs·held-next code.function (code.unfolded 𝓤 H 𝓜 𝓡)
+    (tables 𝓤 H 𝓜 𝓡 code.env .C) (tables 𝓤 H 𝓜 𝓡 code.env .Λ) #held·held-next code.function (code.unfolded 𝓤 H 𝓜 𝓡)
     (held-meets 𝓤 H (𝓖 .A) (givenOf 𝓤 H 𝓜 𝓖) (𝓜 .mem) (𝓡 .run) (tablesOf 𝓤 H 𝓜 (tables 𝓤 H 𝓜 𝓡 code.env))
     (cited 𝓤 H (NextRange 𝓤 H (𝓖 .A) (𝓜 .mem) (𝓡 .run)) 𝓜 𝓡 code.env #runs·next-range range-def.routine code.calls-runs·next-range (range-thm.met 𝓤 H 𝓜 𝓖 𝓡)))
