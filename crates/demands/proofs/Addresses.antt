@@ -1,7 +1,6 @@
 -- A query answers just the ledger's entries; a release and a shrink are granted, or refused with each number, exactly by what the ledger has. Assumes nothing.
-use Prim.Native.Nat.{ℕ, zero, suc, _+_, _-_, _*_, _≤_, _<_}
+use Prim.Native.Nat.{ℕ, _≤_, _<_}
 use mathlib.Core.List.{List, [], _∷_}
-use mathlib.Core.Bool.{Bool, true, false}
 use mathlib.Core.Logic.{_⊎_, inl, inr, ⊎-elim, _↔_}
 use mathlib.Core.Path.{_≡_, refl, sym, ap, subst, _∙_}
 use native.Mathlib.Omega.{arith}
@@ -13,9 +12,8 @@ use Rattle.state.specs.declared.Refusal.{Refusal}
 use Rattle.state.specs.declared.Refusal.the-variants.{InvalidArgument, InvalidState}
 use Rattle.state.specs.declared.Answer.{Answer}
 use Rattle.state.specs.declared.Answer.the-variants.{Created, Granted, Released, Shrunk, Shown, Reset, Refused}
-use Rattle.rules.specs.Turn.{Turn, span}
+use Rattle.rules.specs.Turn.{span}
 use Rattle.rules.specs.Machine.{query, release, shrink, step}
-use Rattle.rules.specs.Shrink.{shrinkTurn}
 use Rattle.ledger.specs.Ledger.{In, strike}
 use Rattle.ledger.specs.Reached.{Reached}
 use Rattle.ledger.proofs.View.{strike-head, strike-tail}

@@ -1,26 +1,20 @@
 -- The span that an allocation has just granted is the one that a release finds. Assumes nothing.
-use Prim.Native.Nat.{ℕ, zero, suc, _+_, _-_, _*_, _≤_, _<_}
-use mathlib.Core.Bool.{Bool, true, false}
-use mathlib.Core.List.{List, [], _∷_}
-use mathlib.Core.Logic.{_⊎_, inl, inr}
-use mathlib.Core.Path.{_≡_, refl, sym, ap, ap₂, subst, _∙_}
+use Prim.Native.Nat.{ℕ, _+_, _-_, _*_, _<_}
+use mathlib.Core.Bool.{true}
+use mathlib.Core.List.{List}
+use mathlib.Core.Path.{_≡_, sym, ap, ap₂, _∙_}
 use native.Mathlib.Nat.{eq-of-mul-eq-mul-right}
 use native.Mathlib.Omega.{arith}
-use lib.ListN.{length}
 use Rattle.state.specs.declared.State.{State}
 use Rattle.state.specs.declared.Span.{Span}
 use Rattle.state.specs.Table.{blockAt}
-use Rattle.state.specs.Find.{lookup}
 use Rattle.facts.proofs.Facts.{found-in}
-use Rattle.rules.specs.Turn.{Turn}
 use Rattle.rules.specs.Release.{freeTurn, releaseTurn}
 use Rattle.ledger.specs.Ledger.{In}
 use Rattle.ledger.specs.Agrees.{within}
 use Rattle.ledger.proofs.View.{in-unit}
-use Rattle.ledger.proofs.Table.{Stands}
 use Rattle.ledger.proofs.Finds.{Finds, nowhere, nothing, entry, finds, stands, not-zero, release-entry}
 use Rattle.ledger.proofs.Reached.{Known}
-use Rattle.demands.specs.Apart.{Inside}
 use Rattle.demands.proofs.Spans.{known-inside, known-one}
 
 pub found-again : {s : State} {u t : List ℕ} {l : List Span} → Known s u t l → (a z j i n : ℕ) → In a z l → j < s .count → i < blockAt s j .area

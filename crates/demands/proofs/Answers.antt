@@ -1,36 +1,30 @@
 -- What a query, a release and a shrink of an address come to in a known state, by what the ledger has there. Assumes nothing.
-use Prim.Native.Nat.{ℕ, zero, suc, _+_, _-_, _*_, _≤_, _<_}
-use mathlib.Core.List.{List, [], _∷_}
-use mathlib.Core.Bool.{Bool, true, false}
-use mathlib.Core.Logic.{_⊎_, inl, inr, ⊎-elim}
+use Prim.Native.Nat.{ℕ, _-_, _*_, _≤_, _<_}
+use mathlib.Core.List.{List}
 use mathlib.Core.Path.{_≡_, refl, sym, ap, subst, _∙_}
 use native.Mathlib.Nat.{mul-le-mul-right, mul-lt-mul-of-pos-right}
 use native.Mathlib.Omega.{arith}
 use lib.ListN.{length}
 use Rattle.numbers.specs.Units.{unitsOf, bytesOf}
 use Rattle.numbers.proofs.Split.{by-eq, by-le, not-both}
-use Rattle.block.specs.declared.Block.{Block}
 use Rattle.block.specs.Marking.{released}
 use Rattle.state.specs.declared.State.{State}
 use Rattle.state.specs.declared.Span.{Span}
 use Rattle.state.specs.declared.Found.the-variants.{At, Nothing}
-use Rattle.state.specs.declared.Held.the-variants.{NoSpan, Units}
-use Rattle.state.specs.declared.Refusal.{Refusal}
+use Rattle.state.specs.declared.Held.the-variants.{NoSpan}
 use Rattle.state.specs.declared.Refusal.the-variants.{InvalidArgument, InvalidState}
-use Rattle.state.specs.declared.Answer.{Answer}
 use Rattle.state.specs.declared.Answer.the-variants.{Released, Shrunk, Shown, Refused}
 use Rattle.state.specs.Table.{blockAt}
 use Rattle.state.specs.Find.{holds, lookup}
 use Rattle.state.proofs.Find.{Least, least-of}
 use Rattle.facts.proofs.Facts.{found-in}
-use Rattle.rules.specs.Turn.{Turn, turn, span, withLive, unitOf}
+use Rattle.rules.specs.Turn.{Turn, span, withLive, unitOf}
 use Rattle.rules.specs.Release.{lessUsed, freeTurn, releaseTurn}
 use Rattle.rules.specs.Shrink.{shrinkTurn}
 use Rattle.rules.specs.Span.{queryTurn}
 use Rattle.closed.proofs.Cases.{settle-cases}
 use Rattle.ledger.specs.Ledger.{In}
 use Rattle.ledger.specs.Agrees.{Sound}
-use Rattle.ledger.proofs.Table.{Stands}
 use Rattle.ledger.proofs.Finds.{Finds, nowhere, nothing, entry, finds, stands, unit-is, not-zero, query-at, query-held, query-entry, release-zero, release-at, release-held, release-entry, shrink-zero, shrink-at, shrink-held, shrink-units, units-more, units-same, units-less}
 use Rattle.ledger.proofs.Reached.{Known}
 use Rattle.demands.specs.Apart.{Held, Vacant}

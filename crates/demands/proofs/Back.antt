@@ -1,8 +1,8 @@
 -- An allocation granted and released at once: granted, the ledger is the old one, every earlier block stands with its words, and one empty block is extra,
 -- the last, exactly if one was made, its pool kept none empty and immediate release is off. Assumes nothing.
-use Prim.Native.Nat.{ℕ, zero, suc, _+_, _-_, _*_, _≤_, _<_}
-use mathlib.Core.Bool.{Bool, true, false}
-use mathlib.Core.List.{List, [], _∷_}
+use Prim.Native.Nat.{ℕ, _+_, _*_, _<_}
+use mathlib.Core.Bool.{true, false}
+use mathlib.Core.List.{List, _∷_}
 use mathlib.Core.Logic.{_⊎_, inl, inr, ⊎-elim, _↔_}
 use mathlib.Core.Path.{_≡_, refl, sym, ap, ap₂, subst, _∙_}
 use native.Mathlib.Omega.{arith}
@@ -12,7 +12,7 @@ use Rattle.numbers.specs.Pick.{pick}
 use Rattle.numbers.proofs.Split.{not-both}
 use Rattle.runs.specs.Window.{FreeAt}
 use Rattle.slots.specs.Slots.{slotOf}
-use Rattle.block.specs.declared.Block.{Block}
+use Rattle.block.specs.Marking.{marked}
 use Rattle.sizes.specs.declared.Rounded.the-variants.{To}
 use Rattle.sizes.specs.declared.Pool.{Pool}
 use Rattle.sizes.specs.Pools.{poolOf, freshPool}
@@ -29,16 +29,17 @@ use Rattle.state.specs.Table.{blockAt, poolAt}
 use Rattle.facts.proofs.Facts.{unit-g, pool-3}
 use Rattle.facts.proofs.Search.{Left, Place as PlaceIn}
 use Rattle.facts.proofs.Pool.{whole, units-kept}
-use Rattle.rules.specs.Turn.{Turn, refuse, span, unitOf}
-use Rattle.rules.specs.Alloc.{markTurn, makeTurn, allocTurn}
+use Rattle.rules.specs.Turn.{Turn, span}
+use Rattle.rules.specs.Alloc.{markTurn, makeTurn}
 use Rattle.rules.specs.Release.{freeTurn, releaseTurn}
 use Rattle.rules.specs.Machine.{alloc, release, step}
-use Rattle.paint.proofs.Lies.{Lies, marked-lies}
+use Rattle.paint.proofs.Lies.{marked-lies}
 use Rattle.closed.specs.Sized.{Sized}
 use Rattle.closed.proofs.Cases.{Seeks, Places, poolFor, unitsFor, searchFor, newSize}
+use Rattle.closed.proofs.After.{put-block}
 use Rattle.closed.proofs.Sized.{sized-search}
 use Rattle.closed.proofs.Request.{seeks-some, seeks-ready}
-use Rattle.ledger.specs.Ledger.{In, enter, strike}
+use Rattle.ledger.specs.Ledger.{enter}
 use Rattle.ledger.specs.First.{FirstFrom}
 use Rattle.ledger.specs.Reached.{Reached, called}
 use Rattle.ledger.proofs.View.{strike-head}
@@ -47,12 +48,11 @@ use Rattle.ledger.proofs.Alloc.{refused, hit, full, made, goes, Goes as Ways}
 use Rattle.ledger.proofs.Made.{made-answer, made-lies, made-shaped}
 use Rattle.ledger.proofs.Step.{combed, left}
 use Rattle.ledger.proofs.Reached.{Known, reached-known, step-known}
-use Rattle.demands.specs.Back.{Stood, AllStood}
+use Rattle.demands.specs.Back.{AllStood}
 use Rattle.demands.proofs.Addresses.{release-grants}
 use Rattle.demands.proofs.First.{two-sizes}
-use Rattle.demands.proofs.Freed.{marked-block}
 use Rattle.demands.proofs.Again.{found-again}
-use Rattle.demands.proofs.Restored.{lies-refl, lies-trans, Kept, marked-back}
+use Rattle.demands.proofs.Restored.{lies-refl, lies-trans, marked-back}
 use Rattle.demands.proofs.Unmade.{Outcome, made-back}
 
 -- ---- the span that an answer grants
@@ -144,7 +144,7 @@ module _ {s : State} {u t : List ℕ} {l : List Span} (k : Known s u t l) (size 
       let same : slotOf (s .w) (blockAt s j .slot) u ≡ slotOf (r .w) (blockAt r j .slot) u =
       ap₂ (λ (x y : ℕ). slotOf x y u) (sym (ap (λ (x : State). x .w) (cb .only))) (sym (lf .alike j .slot)) in
       let low : j < 64 = omega (arith, h, lf .shaped .head .count-slots, lf .shaped .head .slots-high) in
-      let block = lies-trans (lies-refl (marked-block r zr u t j i n low)) (marked-lies (blockAt r j) i (i + n)) in
+      let block = lies-trans (lies-refl (put-block r zr j (marked (blockAt r j) i (i + n)) low)) (marked-lies (blockAt r j) i (i + n)) in
       let unit = unit-g r (length u) (length t) (lf .shaped) (blockAt r j .pool) (pool-3 r (length u) (length t) (lf .shaped) j h) in
       let g = granted-span (x .answer) _ (span a z) (ap (λ (y : Turn). y .answer) turned) granted in
       let ea : a ≡ blockAt (m .state) j .base + i * r .g = sym (g .0) ∙ ap₂ (λ (b c : ℕ). b + i * c) (sym (block .base)) unit in

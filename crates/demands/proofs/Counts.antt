@@ -1,8 +1,7 @@
 -- The live and used counts are the ledger's own, and both maps are what it paints. Assumes nothing.
-use Prim.Native.Nat.{ℕ, zero, suc, _+_, _*_, _≤_, _<_}
+use Prim.Native.Nat.{ℕ, zero, suc, _+_, _*_, _<_}
 use mathlib.Core.List.{List, [], _∷_}
-use mathlib.Core.Bool.{Bool, true, false}
-use mathlib.Core.Path.{_≡_, refl, sym, ap, ap₂, subst, _∙_}
+use mathlib.Core.Path.{_≡_, refl, sym, ap, subst, _∙_}
 use native.Mathlib.Nat.{not-suc-le-zero}
 use native.Mathlib.Omega.{arith}
 use lib.ListN.{length}
@@ -16,7 +15,7 @@ use Rattle.state.specs.Table.{blockAt, poolAt, sum, only}
 use Rattle.state.specs.Shape.{inPool}
 use Rattle.state.proofs.Tests.{sum-same}
 use Rattle.paint.specs.Paint.{Piece, piece, units, Paints}
-use Rattle.ledger.specs.Agrees.{within, view, viewOf, Lies, at, Homes, Clear}
+use Rattle.ledger.specs.Agrees.{view, viewOf, at, Homes, Clear}
 use Rattle.ledger.specs.Reached.{Reached}
 use Rattle.ledger.proofs.View.{lies-in, view-other, view-lies}
 use Rattle.ledger.proofs.Table.{Stands, one-block}

@@ -1,12 +1,12 @@
 -- Demand 2: an allocation goes to the first block of its pool that has a place, at its lowest; and a new block is made, or refusal 4 given, exactly if
 -- none has. Assumes nothing.
-use Prim.Native.Nat.{ℕ, zero, suc, _+_, _-_, _*_, _≤_, _<_}
+use Prim.Native.Nat.{ℕ, _+_, _*_, _<_}
 use mathlib.Core.List.{List}
-use mathlib.Core.Logic.{_⊎_, inl, inr, ⊎-elim, _↔_}
+use mathlib.Core.Logic.{inl, inr, _↔_}
 use mathlib.Core.Path.{_≡_, refl, sym, ap, ap₂, subst, _∙_}
 use native.Mathlib.Omega.{arith}
 use lib.ListN.{length}
-use Rattle.numbers.specs.Units.{unitsOf, bytesOf}
+use Rattle.numbers.specs.Units.{unitsOf}
 use Rattle.block.specs.declared.Block.{Block}
 use Rattle.sizes.specs.declared.Rounded.{Rounded}
 use Rattle.sizes.specs.declared.Rounded.the-variants.{To, Refused as tooBad}
@@ -19,7 +19,6 @@ use Rattle.state.specs.declared.Found.{Found}
 use Rattle.state.specs.declared.Found.the-variants.{At as slotAt, Nothing}
 use Rattle.state.specs.declared.Place.{Place}
 use Rattle.state.specs.declared.Place.the-variants.{Address, Nowhere as noPlace}
-use Rattle.state.specs.declared.Hit.{Hit}
 use Rattle.state.specs.declared.Hit.the-variants.{At, Nowhere}
 use Rattle.state.specs.declared.Refusal.the-variants.{NoMapping}
 use Rattle.state.specs.declared.Answer.{Answer}
@@ -34,7 +33,6 @@ use Rattle.facts.proofs.Pool.{whole, units-kept}
 use Rattle.rules.specs.Turn.{Turn, span, unitOf}
 use Rattle.rules.specs.Alloc.{markTurn, makeTurn}
 use Rattle.rules.specs.Machine.{alloc, step}
-use Rattle.closed.specs.Sized.{Sized}
 use Rattle.closed.proofs.Cases.{Seeks, Places, poolFor, unitsFor, searchFor, newSize}
 use Rattle.closed.proofs.Sized.{sized-search}
 use Rattle.closed.proofs.Request.{seeks-some, seeks-pool, seeks-ready}

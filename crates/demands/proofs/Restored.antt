@@ -1,5 +1,5 @@
 -- A span marked in a standing block and released at once: the maps are as they were, word by word, and no block goes. Assumes nothing.
-use Prim.Native.Nat.{ℕ, zero, suc, _+_, _-_, _*_, _≤_, _<_}
+use Prim.Native.Nat.{ℕ, _+_, _-_, _*_, _≤_, _<_}
 use mathlib.Core.Bool.{Bool, true, false, not, _&&_, _||_}
 use mathlib.Core.List.{List}
 use mathlib.Core.Path.{_≡_, refl, sym, ap, ap₂, subst, _∙_}
@@ -14,7 +14,7 @@ use Rattle.bits.specs.Bits.{bit, filled, Words}
 use Rattle.bits.proofs.Fill.{length-filled}
 use Rattle.runs.specs.Window.{FreeAt}
 use Rattle.slots.specs.Slots.{slotOf, putSlot, fillSlot}
-use Rattle.slots.proofs.Laws.{length-slot, slot-own, put-put-slot, put-slot-same, words-slot}
+use Rattle.slots.proofs.Laws.{slot-own, put-put-slot, put-slot-same, words-slot}
 use Rattle.block.specs.declared.Block.{Block}
 use Rattle.block.specs.Marking.{marked, released}
 use Rattle.sizes.specs.declared.Pool.{Pool}
@@ -22,7 +22,7 @@ use Rattle.state.specs.declared.State.{State}
 use Rattle.state.specs.declared.Span.{Span}
 use Rattle.state.specs.declared.Answer.{Answer}
 use Rattle.state.specs.declared.Answer.the-variants.{Released}
-use Rattle.state.specs.Table.{blockAt, poolAt, sum, one}
+use Rattle.state.specs.Table.{blockAt, poolAt, one}
 use Rattle.state.specs.Shape.{isEmpty, inPool, emptiesOf}
 use Rattle.state.proofs.Tests.{sum-term}
 use Rattle.shape.specs.Shaped.{Shaped}
@@ -30,17 +30,17 @@ use Rattle.facts.proofs.Facts.{pool-3, count-64}
 use Rattle.rules.specs.Turn.{Turn, turn, span, unitOf}
 use Rattle.rules.specs.Alloc.{markTurn}
 use Rattle.rules.specs.Release.{freeTurn}
-use Rattle.paint.specs.Paint.{Paints}
 use Rattle.paint.proofs.Back.{used-back, stop-back}
 use Rattle.paint.proofs.Lies.{Lies, marked-lies, released-lies}
 use Rattle.closed.specs.Sized.{Sized}
 use Rattle.closed.proofs.Cases.{settle-cases}
+use Rattle.closed.proofs.After.{put-block, put-block-other, less-block, less-block-other}
 use Rattle.closed.proofs.Sized.{sized-block, sized-pool, sized-live}
 use Rattle.ledger.specs.Agrees.{viewOf, at, Agrees}
 use Rattle.ledger.proofs.Table.{Stands, slot-room}
 use Rattle.ledger.proofs.Calls.{part-u, part-t}
-use Rattle.demands.specs.Back.{Stood, AllStood}
-use Rattle.demands.proofs.Freed.{marked-used, released-used, marked-block, marked-other, marked-empty, less, freed-block, freed-other, freed-empty}
+use Rattle.demands.specs.Back.{AllStood}
+use Rattle.demands.proofs.Freed.{marked-used, released-used, marked-empty, less, freed-empty}
 
 pub lies-refl : {c b : Block} → c ≡ b → Lies c b
 lies-refl e = record {
@@ -107,7 +107,7 @@ module _ (r : State) (u t : List ℕ) (l : List Span) (f : Shaped r (length u) (
   lt = part-t (r .g) (r .w) (r .slots) (r .count) (r .blocks) u t st l ag j h
 
   lies-1 : Lies b1 b
-  lies-1 = lies-trans (lies-refl (marked-block r z u t j i n low)) (marked-lies b i (i + n))
+  lies-1 = lies-trans (lies-refl (put-block r z j (marked b i (i + n)) low)) (marked-lies b i (i + n))
 
   -- ---- the maps
   free-up : (q : ℕ) → i ≤ q → q < i + n → bit pu q ≡ 0
@@ -132,16 +132,16 @@ module _ (r : State) (u t : List ℕ) (l : List Span) (f : Shaped r (length u) (
   c = released b1 i (i + n)
 
   abbrev after : State
-  after = less (x .state) marked-sized j (i + n - i) (x .state .live - 1) c
+  after = less (x .state) j (i + n - i) (x .state .live - 1) c
 
   here : blockAt after j ≡ c
-  here = freed-block (x .state) marked-sized j (i + n - i) (x .state .live - 1) c low
+  here = less-block (x .state) marked-sized j c (i + n - i) low
 
   lies-2 : (q : ℕ) → Lies (blockAt after q) (blockAt r q)
   lies-2 q =
       by-eq q j
       (λ e. subst (λ (q : ℕ). Lies (blockAt after q) (blockAt r q)) (sym e) (lies-trans (lies-refl here) (lies-trans (released-lies b1 i (i + n)) lies-1)))
-      (λ ne. lies-refl (freed-other (x .state) marked-sized j (i + n - i) (x .state .live - 1) c q ne ∙ marked-other r z u t j i n q ne))
+      (λ ne. lies-refl (less-block-other (x .state) marked-sized j c (i + n - i) low q ne ∙ put-block-other r z j (marked b i (i + n)) low q ne))
 
   used-same : blockAt after j .used ≡ b .used
   used-same =
@@ -149,7 +149,7 @@ module _ (r : State) (u t : List ℕ) (l : List Span) (f : Shaped r (length u) (
         arith,
         ap (λ (y : Block). y .used) here,
         released-used b1 i (i + n),
-        ap (λ (y : Block). y .used) (marked-block r z u t j i n low),
+        ap (λ (y : Block). y .used) (put-block r z j (marked b i (i + n)) low),
         marked-used b i (i + n),
       )
 

@@ -1,11 +1,10 @@
 -- In every state reached: a block is looked into and a place found in it exactly if it is the lowest of its whole area; and what an allocation enters is
 -- new to the ledger. Assumes nothing.
-use Prim.Native.Nat.{ℕ, zero, suc, _+_, _-_, _*_, _≤_, _<_}
-use mathlib.Core.List.{List, [], _∷_}
+use Prim.Native.Nat.{ℕ, _<_}
+use mathlib.Core.List.{List, _∷_}
 use mathlib.Core.Logic.{_⊎_, inl, inr, ⊎-elim, _↔_}
-use mathlib.Core.Path.{_≡_, refl, sym, ap, subst, _∙_}
+use mathlib.Core.Path.{_≡_, refl, ap, subst}
 use native.Mathlib.Omega.{arith}
-use lib.ListN.{length}
 use Rattle.slots.specs.Slots.{slotOf}
 use Rattle.block.specs.declared.Looked.the-variants.{Found}
 use Rattle.block.specs.Search.{lookInto}
@@ -18,7 +17,7 @@ use Rattle.state.specs.Table.{blockAt}
 use Rattle.rules.specs.Turn.{span}
 use Rattle.rules.specs.Machine.{alloc, step}
 use Rattle.paint.proofs.Sound.{sound-windowed}
-use Rattle.ledger.specs.Ledger.{In, enter}
+use Rattle.ledger.specs.Ledger.{enter}
 use Rattle.ledger.specs.Agrees.{viewOf}
 use Rattle.ledger.specs.First.{LowestPlace}
 use Rattle.ledger.specs.Reached.{Reached, called}

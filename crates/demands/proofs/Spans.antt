@@ -1,9 +1,8 @@
 -- The spans of the ledger share no byte, each lies in one block, and no two have one address. Assumes nothing.
-use Prim.Native.Nat.{ℕ, zero, suc, _+_, _-_, _*_, _≤_, _<_}
+use Prim.Native.Nat.{ℕ, _+_, _*_, _≤_, _<_}
 use mathlib.Core.List.{List, [], _∷_}
-use mathlib.Core.Bool.{Bool, true, false}
 use mathlib.Core.Logic.{_⊎_, inl, inr, ⊎-elim}
-use mathlib.Core.Path.{_≡_, refl, sym, ap, subst, subst₂, _∙_}
+use mathlib.Core.Path.{_≡_, sym, ap, subst, subst₂, _∙_}
 use native.Mathlib.Nat.{mul-le-mul-right, mul-lt-mul-of-pos-right}
 use native.Mathlib.Omega.{arith}
 use lib.ListN.{length}
@@ -13,17 +12,16 @@ use Rattle.block.specs.declared.Block.{Block}
 use Rattle.state.specs.declared.State.{State}
 use Rattle.state.specs.declared.Span.{Span}
 use Rattle.state.specs.Table.{blockAt}
-use Rattle.state.specs.Find.{holds}
-use Rattle.paint.specs.Paint.{Piece, piece, has, held, Inside as InsideArea, In as InPieces}
+use Rattle.paint.specs.Paint.{Piece, piece, held, Inside as InsideArea, In as InPieces}
 use Rattle.paint.proofs.Pieces.{has-in, in-inside, in-held}
 use Rattle.paint.proofs.Paints.{held-one}
-use Rattle.closed.specs.Sized.{Sized}
 use Rattle.ledger.specs.Ledger.{In}
-use Rattle.ledger.specs.Agrees.{within, view, viewOf, at, Homes, Sound}
+use Rattle.ledger.specs.Agrees.{within, view, viewOf, at, Homes}
 use Rattle.ledger.specs.Reached.{Reached}
 use Rattle.ledger.proofs.View.{view-lies, in-view}
+use Rattle.ledger.proofs.Count.{view-inside}
 use Rattle.ledger.proofs.Table.{Stands, Beside, home-of}
-use Rattle.ledger.proofs.Look.{Seen, seen, seen-here}
+use Rattle.ledger.proofs.Look.{seen, seen-here}
 use Rattle.ledger.proofs.Finds.{shaped, stands}
 use Rattle.ledger.proofs.Reached.{Known, reached-known}
 use Rattle.demands.specs.Apart.{Apart, Inside}
@@ -45,11 +43,6 @@ view-held : (g : ℕ) (b : Block) (x : Span) (l : List Span) → ((k : ℕ) → 
 unfolding view held
 view-held g b x l f k =
     picked (λ (m : List Piece). held m k < 2 → held (viewOf g b l) k < 2) (within (b .base) (b .size) (x .address)) _ _ (λ e p. omega (arith, p)) (λ e p. p) (f k)
-
-view-inside : (g : ℕ) (b : Block) (x : Span) (l : List Span) → InsideArea (viewOf g b (x ∷ l)) (b .area) → InsideArea (viewOf g b l) (b .area)
-unfolding view
-view-inside g b x l =
-    picked (λ (m : List Piece). InsideArea m (b .area) → InsideArea (viewOf g b l) (b .area)) (within (b .base) (b .size) (x .address)) _ _ (λ e p. p .2) (λ e p. p)
 
 module _ (g w slots n : ℕ) (bs : List Block) (lu lt : ℕ) (st : Stands g w slots n bs lu lt) where
   -- units of a block that fit its area are bytes of it

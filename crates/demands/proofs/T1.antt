@@ -1,6 +1,5 @@
 -- Document 01's T1 as states reached, so there are such states; and its ledger, computed. Assumes nothing.
-use Prim.Native.Nat.{ℕ, zero, suc, _+_}
-use mathlib.Core.Bool.{Bool, true, false}
+use Prim.Native.Nat.{ℕ}
 use mathlib.Core.List.{List, [], _∷_}
 use mathlib.Core.Path.{_≡_, refl}
 use lib.ListN.{replicate}
@@ -25,7 +24,7 @@ use Rattle.rules.specs.Span.{queryTurn}
 use Rattle.rules.specs.Release.{releaseTurn}
 use Rattle.rules.specs.Shrink.{shrinkTurn}
 use Rattle.rules.specs.Reset.{clearBlocks, kept, resetTurn}
-use Rattle.rules.specs.Machine.{Call, alloc, release, shrink, query, softReset, step}
+use Rattle.rules.specs.Machine.{Call, alloc, release, shrink, query, step}
 use Rattle.ledger.specs.Ledger.{strike, enter}
 use Rattle.ledger.specs.Reached.{Reached, created, called}
 

@@ -1,22 +1,22 @@
 -- A block made for a span that is released at once: earlier blocks and their words stand, and the new block goes, or stays as the pool's only empty one.
 -- Assumes nothing.
-use Prim.Native.Nat.{ℕ, zero, suc, _+_, _-_, _*_, _≤_, _<_}
-use mathlib.Core.Bool.{Bool, true, false, not, _&&_, _||_}
+use Prim.Native.Nat.{ℕ, _+_, _-_, _*_, _≤_, _<_}
+use mathlib.Core.Bool.{Bool, true, false, not, _||_}
 use mathlib.Core.List.{List}
 use mathlib.Core.Logic.{_⊎_, inl, inr, ⊎-elim}
 use mathlib.Core.Path.{_≡_, refl, sym, ap, ap₂, subst, _∙_}
 use native.Mathlib.Omega.{arith}
-use lib.Dec.{eqb, ltb}
+use lib.Dec.{eqb}
 use lib.ListN.{length}
 use borrow.Author.Tests.{eqb-false, lt-ltb, not-true}
 use Rattle.numbers.specs.Pick.{pick}
 use Rattle.numbers.specs.Units.{unitsOf, bytesOf}
 use Rattle.bits.specs.Bits.{filled}
 use Rattle.bits.proofs.Fill.{length-filled}
-use Rattle.slots.specs.Slots.{slotOf, putSlot, fillSlot}
+use Rattle.slots.specs.Slots.{slotOf, fillSlot}
 use Rattle.slots.proofs.Laws.{length-slot, slot-other}
 use Rattle.block.specs.declared.Block.{Block}
-use Rattle.block.specs.Marking.{marked, released, fresh}
+use Rattle.block.specs.Marking.{released, fresh}
 use Rattle.sizes.specs.declared.Pool.{Pool}
 use Rattle.state.specs.declared.State.{State}
 use Rattle.state.specs.declared.Span.{Span}
@@ -24,31 +24,26 @@ use Rattle.state.specs.declared.Answer.{Answer}
 use Rattle.state.specs.declared.Answer.the-variants.{Released}
 use Rattle.state.specs.Table.{blockAt, poolAt, one}
 use Rattle.state.specs.Shape.{isEmpty}
-use Rattle.state.specs.Change.{past, inserted, removed}
+use Rattle.state.specs.Change.{inserted, removed}
 use Rattle.shape.specs.Shaped.{Shaped}
+use Rattle.shape.proofs.Bools.{or-cases}
 use Rattle.rules.specs.Turn.{Turn, turn, span, unitOf, clearSlot}
 use Rattle.rules.specs.Alloc.{makeTurn}
 use Rattle.rules.specs.Release.{freeTurn}
 use Rattle.paint.proofs.Lies.{Lies, released-lies}
 use Rattle.closed.specs.Sized.{Sized}
 use Rattle.closed.proofs.Cases.{Places, newSize, settle-cases}
-use Rattle.closed.proofs.After.{inserted-pool}
-use Rattle.closed.proofs.Sized.{sized-block, sized-pool, sized-live, sized-inserted}
+use Rattle.closed.proofs.After.{inserted-pool, less-block, less-block-other, removed-block}
+use Rattle.closed.proofs.Sized.{sized-block, sized-pool, sized-live, sized-less, sized-inserted}
 use Rattle.closed.proofs.Words.{make-long, length-fill-slot}
-use Rattle.ledger.specs.Agrees.{at, Agrees}
+use Rattle.ledger.specs.Agrees.{Agrees}
 use Rattle.ledger.proofs.Table.{Stands, slot-room}
 use Rattle.ledger.proofs.Grow.{Elsewhere}
 use Rattle.ledger.proofs.Cleared.{clear-other}
-use Rattle.ledger.proofs.Right.{moved-at}
 use Rattle.ledger.proofs.Made.{made-new, made-old, made-lies, made-slot-apart, made-used, made-stop, ready, last, slot-low}
-use Rattle.demands.specs.Back.{Stood, AllStood}
-use Rattle.demands.proofs.Freed.{marked-used, released-used, marked-empty, less, freed-block, freed-other, freed-empty}
+use Rattle.demands.specs.Back.{AllStood}
+use Rattle.demands.proofs.Freed.{marked-used, released-used, marked-empty, less, freed-empty}
 use Rattle.demands.proofs.Restored.{lies-refl}
-
--- one of two tests passes
-either-true : (a b : Bool) → a || b ≡ true → (a ≡ true) ⊎ (b ≡ true)
-either-true true b e = inl refl
-either-true false b e = inr e
 
 -- the words of another slot, after one is filled
 filled-away : (w slots k : ℕ) (ws : List ℕ) (i n v : ℕ) → k < slots → slots * w ≤ length ws → Elsewhere w slots k ws (fillSlot w k ws i n v)
@@ -104,14 +99,17 @@ module _ (r : State) (u t : List ℕ) (l : List Span) (f : Shaped r (length u) (
   c = released b1 0 (0 + n)
 
   abbrev after : State
-  after = less (x .state) made-sized (r .count) (0 + n - 0) (x .state .live - 1) c
+  after = less (x .state) (r .count) (0 + n - 0) (x .state .live - 1) c
+
+  after-sized : Sized after
+  after-sized = sized-live _ (sized-less (x .state) made-sized (r .count) c (0 + n - 0)) _
 
   here : blockAt after (r .count) ≡ c
-  here = freed-block (x .state) made-sized (r .count) (0 + n - 0) (x .state .live - 1) c low
+  here = less-block (x .state) made-sized (r .count) c (0 + n - 0) low
 
   old : (q : ℕ) → q < r .count → blockAt after q ≡ blockAt r q
   old q h =
-      freed-other (x .state) made-sized (r .count) (0 + n - 0) (x .state .live - 1) c q (λ e. omega arith)
+      less-block-other (x .state) made-sized (r .count) c (0 + n - 0) low q (λ e. omega arith)
       ∙ made-old r u t l f z st ag live p n bytes place slot p-low some asked most fits k q h
 
   unused : blockAt after (r .count) .used ≡ 0
@@ -214,12 +212,12 @@ module _ (r : State) (u t : List ℕ) (l : List Span) (f : Shaped r (length u) (
   Outcome o = AllStood r u t o × Settled o
 
   gone-old : (q : ℕ) → q < r .count → blockAt (removed after (r .count)) q ≡ blockAt r q
-  gone-old q h = moved-at after (r .count) q (omega (arith, low)) ∙ ap (λ (c : Bool). blockAt after (pick c q (q + 1))) (lt-ltb q (r .count) h) ∙ old q h
+  gone-old q h = removed-block after after-sized (r .count) q (omega (arith, low)) ∙ ap (λ (c : Bool). blockAt after (pick c q (q + 1))) (lt-ltb q (r .count) h) ∙ old q h
 
   why : not (eqb (poolAt after (blockAt after (r .count) .pool) .empty) 0) || r .immediate ≡ true → (poolAt r p .empty ≡ 0 → ⊥) ⊎ (r .immediate ≡ true)
   why e =
       ⊎-elim (λ c. inl (λ q. eqb-false (poolAt after (blockAt after (r .count) .pool) .empty) 0 (not-true (eqb (poolAt after (blockAt after (r .count) .pool) .empty) 0) c) (empty-here ∙ q)))
-      (λ c. inr c) (either-true (not (eqb (poolAt after (blockAt after (r .count) .pool) .empty) 0)) (r .immediate) e)
+      (λ c. inr c) (or-cases (not (eqb (poolAt after (blockAt after (r .count) .pool) .empty) 0)) (r .immediate) e)
 
   pub made-back : Outcome (freeTurn (x .state) (x .used) (x .stop) a (r .count) 0 (0 + n))
   made-back =

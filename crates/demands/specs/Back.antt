@@ -1,12 +1,10 @@
 -- An allocation released at once: what stands afterwards. Assumes nothing.
-use Prim.Native.Nat.{ℕ, _+_, _<_}
-use mathlib.Core.Bool.{true, false}
+use Prim.Native.Nat.{ℕ, _<_}
 use mathlib.Core.List.{List}
-use mathlib.Core.Logic.{_⊎_}
 use mathlib.Core.Path.{_≡_}
 use Rattle.slots.specs.Slots.{slotOf}
 use Rattle.state.specs.declared.State.{State}
-use Rattle.state.specs.Table.{blockAt, poolAt}
+use Rattle.state.specs.Table.{blockAt}
 use Rattle.rules.specs.Turn.{Turn}
 
 -- block i stands in y as it stood in s: its base, size, slot and pool, and its words in both maps

@@ -1,29 +1,21 @@
 -- An allocation in a sound state: the ways that it can go, and that each of them is right. Assumes nothing.
-use Prim.Native.Nat.{ℕ, zero, suc, _+_, _-_, _*_, _≤_, _<_}
-use mathlib.Core.List.{List, [], _∷_}
-use mathlib.Core.Bool.{Bool, true, false, not, _&&_}
-use mathlib.Core.Logic.{_⊎_, inl, inr, ⊎-elim}
-use mathlib.Core.Path.{_≡_, refl, sym, ap, ap₂, subst, subst₂, _∙_}
+use Prim.Native.Nat.{ℕ, _+_, _-_, _*_, _≤_, _<_}
+use mathlib.Core.List.{List, _∷_}
+use mathlib.Core.Bool.{Bool, true, false}
+use mathlib.Core.Logic.{_⊎_, inl, inr}
+use mathlib.Core.Path.{_≡_, refl, sym, ap, subst, _∙_}
 use native.Mathlib.Omega.{arith}
-use lib.Dec.{leb, ltb, eqb}
-use lib.ListN.{length, set, replicate}
-use lib.Seq.{getD-set-same, getD-set-other}
-use borrow.Author.Tests.{leb-true, le-leb, eqb-false, not-true}
+use lib.Dec.{leb, eqb}
+use lib.ListN.{length, set}
+use borrow.Author.Tests.{leb-true, leb-false}
 use Rattle.numbers.specs.Pick.{pick}
-use Rattle.numbers.specs.Units.{unitsOf, bytesOf}
-use Rattle.numbers.proofs.Split.{by-eq, by-le, not-both}
-use Rattle.bits.specs.Bits.{bit, filled}
-use Rattle.slots.specs.Slots.{slotOf, putSlot, fillSlot}
-use Rattle.slots.proofs.Laws.{slot-own, slot-other, length-slot}
-use Rattle.bits.proofs.Fill.{length-filled}
-use Rattle.block.specs.declared.Block.{Block}
-use Rattle.block.specs.Marking.{marked, fresh}
-use Rattle.runs.specs.Window.{Lowest}
+use Rattle.numbers.specs.Units.{unitsOf}
+use Rattle.bits.specs.Bits.{bit}
+use Rattle.slots.specs.Slots.{slotOf, fillSlot}
+use Rattle.block.specs.Marking.{marked}
 use Rattle.sizes.specs.declared.Rounded.{Rounded}
 use Rattle.sizes.specs.declared.Rounded.the-variants.{To, Refused as tooBad}
 use Rattle.sizes.specs.Sizes.{rounded}
-use Rattle.sizes.specs.declared.Pool.{Pool}
-use Rattle.sizes.specs.Pools.{poolOf}
 use Rattle.state.specs.declared.State.{State}
 use Rattle.state.specs.declared.Span.{Span}
 use Rattle.state.specs.declared.Found.{Found}
@@ -33,40 +25,21 @@ use Rattle.state.specs.declared.Place.the-variants.{Address, Nowhere as noPlace
 use Rattle.state.specs.declared.Hit.{Hit}
 use Rattle.state.specs.declared.Hit.the-variants.{At, Nowhere}
 use Rattle.state.specs.declared.Refusal.the-variants.{InvalidArgument, TooLarge, NoMapping}
-use Rattle.state.specs.declared.Answer.the-variants.{Granted, Refused}
-use Rattle.state.specs.Table.{zeroBlock, blockAt, poolAt, all}
-use Rattle.state.specs.Shape.{goodShape, isEmpty}
-use Rattle.state.specs.Find.{lookup, lowestPlace, lowestSlot, slotFree, placeAt, placeFree, clear}
-use Rattle.state.specs.Change.{inserted}
-use Rattle.state.proofs.Tests.{and-right, all-at}
+use Rattle.state.specs.Table.{blockAt, poolAt}
+use Rattle.state.specs.Shape.{goodShape}
+use Rattle.state.specs.Find.{lowestPlace, lowestSlot}
 use Rattle.shape.specs.Shaped.{Shaped}
-use Rattle.shape.proofs.Shaped.{shaped-is}
-use Rattle.shape.proofs.Address.{apart-is}
 use Rattle.facts.proofs.Facts.{unit-g, pool-3}
-use Rattle.facts.proofs.Room.{slot-is, room-left}
-use Rattle.facts.proofs.Keep.{Same}
-use Rattle.facts.proofs.Search.{Left}
-use Rattle.rules.specs.Turn.{Turn, turn, refuse, span, unitOf, clearSlot}
+use Rattle.rules.specs.Turn.{refuse, span}
 use Rattle.rules.specs.Alloc.{markTurn, makeTurn, placeTurn, searchedTurn, sizeTurn, allocTurn}
-use Rattle.facts.specs.Ready.{Allocates}
 use Rattle.facts.proofs.Pool.{whole}
-use Rattle.paint.specs.Paint.{Piece, piece, Sound as SoundBlock}
-use Rattle.paint.proofs.Sound.{fresh-sound}
-use Rattle.closed.specs.Sized.{Sized}
+use Rattle.paint.proofs.Lies.{marked-lies}
 use Rattle.closed.proofs.Cases.{Seeks, Places, poolFor, unitsFor, searchFor, newSize}
-use Rattle.closed.proofs.Sized.{sized-search}
-use Rattle.closed.proofs.Request.{seeks-some, seeks-pool, seeks-left, seeks-ready}
-use Rattle.closed.proofs.Make.{place-found, make-good}
-use Rattle.sizes.proofs.Pools.{pool-below}
-use Rattle.ledger.specs.Ledger.{In, enter}
-use Rattle.ledger.specs.Agrees.{within, view, viewOf, at, Homes, Agrees, Sound}
-use Rattle.ledger.proofs.View.{in-unit, view-new, view-other}
-use Rattle.ledger.proofs.Table.{Stands, Beside, beside-swap, beside-out, stands-of, slot-room, homes-set, set-stands, sound-moved}
-use Rattle.ledger.proofs.Calls.{marked-keeps, mark-agrees}
-use Rattle.ledger.proofs.Grow.{view-none, add-agrees}
-use Rattle.ledger.proofs.Cleared.{zeros, long, clear-own, clear-other, clear-length}
-use Rattle.ledger.proofs.Search.{Ready, Combed, search-combed}
-use Rattle.ledger.proofs.Finds.{not-bad, shaped, stands}
+use Rattle.ledger.specs.Agrees.{at, Agrees}
+use Rattle.ledger.proofs.Table.{set-stands}
+use Rattle.ledger.proofs.Calls.{mark-agrees}
+use Rattle.ledger.proofs.Search.{Ready}
+use Rattle.ledger.proofs.Finds.{not-bad, stands}
 use Rattle.ledger.proofs.Right.{Right, right-of}
 
 -- ---- the ways that an allocation can go
@@ -84,9 +57,6 @@ pub data Goes (s : State) (u t : List ℕ) (size : ℕ) : Type 0 where
   made : (bytes at slot : ℕ) → Seeks s u t size bytes → searchFor s u bytes .hit ≡ Nowhere → Places (searchFor s u bytes .state) (poolFor s bytes) bytes at slot
       → allocTurn s u t size ≡ makeTurn (searchFor s u bytes .state) u t (poolFor s bytes) (unitsFor s bytes) (newSize (searchFor s u bytes .state) (poolFor s bytes) bytes) at slot
       → Goes s u t size
-
-leb-false : (a b : ℕ) → leb a b ≡ false → b < a
-leb-false a b z = by-le a b (λ h. absurd (not-both (leb a b) (le-leb a b h) z)) (λ h. h)
 
 module _ (s : State) (u t : List ℕ) (size : ℕ) (good : goodShape s (length u) (length t) ≡ true) where
   sized-turn : allocTurn s u t size ≡ sizeTurn s u t (rounded size (s .g))
@@ -137,9 +107,7 @@ module _ (r : State) (u t : List ℕ) (l : List Span) (p n : ℕ) (pos : 0 < n) 
       let st = rd .stands in
       let unit = unit-g r (length u) (length t) f (b .pool) (pool-3 r (length u) (length t) f j h) in
       let z = mark-agrees (r .g) (r .w) (r .slots) (r .count) (r .blocks) u t st l (rd .agrees) j h (rd .ends j h) i n pos fits free in
-      let w = set-stands (r .g) (r .w) (r .slots) (r .count) (r .blocks) (length u) (length t) st j h (marked b i (i + n))
-      (marked-keeps (λ c. c .base) b (λ a d e f k. refl) i (i + n)) (marked-keeps (λ c. c .size) b (λ a d e f k. refl) i (i + n))
-      (marked-keeps (λ c. c .slot) b (λ a d e f k. refl) i (i + n)) (marked-keeps (λ c. c .area) b (λ a d e f k. refl) i (i + n)) in
+      let w = set-stands (r .g) (r .w) (r .slots) (r .count) (r .blocks) (length u) (length t) st j h (marked b i (i + n)) (marked-lies b i (i + n)) in
       right-of l (markTurn r u t j i n) (st .unit) (w .whole)
       (subst (λ (g : ℕ). Agrees (r .g) (r .w) (r .slots) (r .count) (set (r .blocks) j (marked b i (i + n))) (fillSlot (r .w) (b .slot) u i (i + n - i) 1)
       (fillSlot (r .w) (b .slot) t (i + n - 1) 1 1) (span (b .base + i * g) (n * g) ∷ l)) (sym unit) z)

@@ -1,47 +1,27 @@
 -- Marking, release, shrink and a missed search at one block: the table and the maps agree with the ledger afterwards. Assumes nothing.
-use Prim.Native.Nat.{ℕ, zero, suc, _+_, _-_, _*_, _≤_, _<_}
-use mathlib.Core.List.{List, [], _∷_}
-use mathlib.Core.Bool.{Bool, true, false}
-use mathlib.Core.Path.{_≡_, refl, sym, ap, ap₂, subst, subst₂, _∙_}
+use Prim.Native.Nat.{ℕ, _+_, _-_, _*_, _≤_, _<_}
+use mathlib.Core.List.{List, _∷_}
+use mathlib.Core.Bool.{false}
+use mathlib.Core.Path.{_≡_, refl, sym, ap, subst, subst₂, _∙_}
 use native.Mathlib.Omega.{arith}
-use lib.Dec.{eqb}
 use lib.ListN.{length, set}
-use Rattle.numbers.specs.Pick.{pick}
 use Rattle.bits.specs.Bits.{bit, filled}
 use Rattle.bits.proofs.Fill.{length-filled}
 use Rattle.slots.specs.Slots.{slotOf, putSlot, fillSlot}
 use Rattle.slots.proofs.Laws.{length-slot, slot-own, put-put-slot, put-slot-same}
 use Rattle.block.specs.declared.Block.{Block}
-use Rattle.block.specs.declared.Looked.{Looked}
-use Rattle.block.specs.declared.Looked.the-variants.{Found, Missed}
-use Rattle.block.specs.Record.{withNumbers, on, off, emptyFlag, dirtyFlag}
-use Rattle.block.specs.Marking.{moved, full, marked, emptied, widened, released, shrunk}
-use Rattle.block.specs.Search.{tightened, lookInto}
+use Rattle.block.specs.declared.Looked.the-variants.{Missed}
+use Rattle.block.specs.Marking.{marked, released, shrunk}
+use Rattle.block.specs.Search.{lookInto}
 use Rattle.state.specs.declared.Span.{Span}
 use Rattle.rules.specs.Turn.{span}
-use Rattle.paint.specs.Paint.{Piece, piece, In as InPieces, strike as strikePiece, Sound as SoundBlock}
+use Rattle.paint.specs.Paint.{Piece, piece, strike as strikePiece}
 use Rattle.paint.proofs.Sound.{mark-sound, release-sound, shrink-sound, tight-sound}
+use Rattle.paint.proofs.Lies.{numbers-lie, marked-lies, released-lies, missed-lies}
 use Rattle.ledger.specs.Ledger.{In, strike}
-use Rattle.ledger.specs.Agrees.{within, viewOf, at, Homes, Agrees}
+use Rattle.ledger.specs.Agrees.{within, viewOf, at, Agrees}
 use Rattle.ledger.proofs.View.{in-unit, view-new, view-other, view-strike, view-strike-other, in-view}
 use Rattle.ledger.proofs.Table.{Stands, slot-room, homes-strike, one-block, aligned, put-one, sound-moved}
-
--- ---- no change of a record touches where the block lies
-module _ (f : Block → ℕ) (b : Block) (kept : (flags used start end largest : ℕ) → f (withNumbers b flags used start end largest) ≡ f b) where
-  either : (x : Bool) (c d : Block) → f c ≡ f b → f d ≡ f b → f (pick x c d) ≡ f b
-  either true c d p q = p
-  either false c d p q = q
-
-  pub marked-keeps : (i e : ℕ) → f (marked b i e) ≡ f b
-  unfolding marked
-  marked-keeps i e =
-      either (eqb (b .used + (e - i)) (b .area)) (full b (b .used + (e - i)))
-      (withNumbers b (on (off (b .flags) emptyFlag) dirtyFlag) (b .used + (e - i)) (moved (b .start) i e) (moved (b .end) e i) (b .largest))
-      (kept (off (off (b .flags) emptyFlag) dirtyFlag) (b .used + (e - i)) (b .area) 0 0) (kept _ _ _ _ _)
-
-  pub released-keeps : (i e : ℕ) → f (released b i e) ≡ f b
-  unfolding released
-  released-keeps i e = either (eqb (b .used - (e - i)) 0) (emptied b) (widened b i e) (kept _ _ _ _ _) (kept _ _ _ _ _)
 
 module _ (g w slots n : ℕ) (bs : List Block) (u t : List ℕ) (st : Stands g w slots n bs (length u) (length t)) (l : List Span)
     (s : Agrees g w slots n bs u t l) (j : ℕ) (h : j < n) where
@@ -83,9 +63,7 @@ module _ (g w slots n : ℕ) (bs : List Block) (u t : List ℕ) (st : Stands g w
         let new : piece i (i + m - i) ∷ viewOf g b l ≡ viewOf g b (span (b .base + i * g) (m * g) ∷ l) =
         ap (λ (k : ℕ). piece i k ∷ viewOf g b l) em ∙ sym (view-new g (st .unit) b (st .whole j h) i m l inside) in
         put-one g w slots n bs (length u) (length t) st j h c
-        (marked-keeps (λ c. c .base) b (λ a d e f k. refl) i (i + m)) (marked-keeps (λ c. c .size) b (λ a d e f k. refl) i (i + m))
-        (marked-keeps (λ c. c .slot) b (λ a d e f k. refl) i (i + m)) (marked-keeps (λ c. c .area) b (λ a d e f k. refl) i (i + m))
-        u t refl refl l s x y (span (b .base + i * g) (m * g) ∷ l)
+        (marked-lies b i (i + m)) u t refl refl l s x y (span (b .base + i * g) (m * g) ∷ l)
         (length-filled pu i (i + m - i) 1 ∙ part-u) (length-filled pt (i + m - 1) 1 1 ∙ part-t)
         (sound-moved c refl refl new (mark-sound b pu pt (viewOf g b l) (s .each j h) room-u room-t within-area i (i + m) (omega arith) fits free))
         (λ k p ne. view-other g (at bs k .base) (at bs k .size) (span (b .base + i * g) (m * g)) l (away i k inside p ne))
@@ -98,9 +76,7 @@ module _ (g w slots n : ℕ) (bs : List Block) (u t : List ℕ) (st : Stands g w
         let a = b .base + i * g in
         let c = released b i e in
         put-one g w slots n bs (length u) (length t) st j h c
-        (released-keeps (λ c. c .base) b (λ a d e f k. refl) i e) (released-keeps (λ c. c .size) b (λ a d e f k. refl) i e)
-        (released-keeps (λ c. c .slot) b (λ a d e f k. refl) i e) (released-keeps (λ c. c .area) b (λ a d e f k. refl) i e)
-        u t refl refl l s (filled pu i (e - i) 0) (filled pt (e - 1) 1 0) (strike a l)
+        (released-lies b i e) u t refl refl l s (filled pu i (e - i) 0) (filled pt (e - 1) 1 0) (strike a l)
         (length-filled pu i (e - i) 0 ∙ part-u) (length-filled pt (e - 1) 1 0 ∙ part-t)
         (sound-moved c refl refl (sym (view-strike g (st .unit) b (st .whole j h) l i inside (aligned g w slots n bs (length u) (length t) st j h l (s .homes))))
         (release-sound b pu pt (viewOf g b l) (s .each j h) room-u room-t within-area i e some (in-view g (st .unit) b (st .whole j h) l i (e - i) inside mem)))
@@ -127,7 +103,7 @@ module _ (g w slots n : ℕ) (bs : List Block) (u t : List ℕ) (st : Stands g w
         let twice : putSlot w (b .slot) t y ≡ fillSlot w (b .slot) (fillSlot w (b .slot) t (e - 1) 1 0) (i + m - 1) 1 1 =
         sym (ap (λ (v : List ℕ). putSlot w (b .slot) (putSlot w (b .slot) t z) (filled v (i + m - 1) 1 1)) (slot-own w (b .slot) t z r lz) ∙ put-put-slot w (b .slot) t z r lz y) in
         subst (λ (v : List ℕ). Agrees g w slots n (set bs j c) (fillSlot w (b .slot) u (i + m) (e - (i + m)) 0) v (span a (m * g) ∷ strike a l)) twice
-        (put-one g w slots n bs (length u) (length t) st j h c refl refl refl refl
+        (put-one g w slots n bs (length u) (length t) st j h c (numbers-lie b _ _ _ _ _)
         u t refl refl l s (filled pu (i + m) (e - (i + m)) 0) y (span a (m * g) ∷ strike a l)
         (length-filled pu (i + m) (e - (i + m)) 0 ∙ part-u) (length-filled z (i + m - 1) 1 1 ∙ lz)
         (sound-moved c refl refl new
@@ -139,10 +115,9 @@ module _ (g w slots n : ℕ) (bs : List Block) (u t : List ℕ) (st : Stands g w
 
     -- a look that found nothing leaves the block tightened, or as it was
     pub missed-agrees : (k : ℕ) → 0 < k → (c : Block) → lookInto w b u k ≡ Missed c
-        → c .base ≡ b .base → c .size ≡ b .size → c .slot ≡ b .slot → c .area ≡ b .area
         → Agrees g w slots n (set bs j c) u t l
-    missed-agrees k pos c e eb ez es ea =
+    missed-agrees k pos c e =
         subst₂ (λ (x y : List ℕ). Agrees g w slots n (set bs j c) x y l) (put-slot-same w (b .slot) u) (put-slot-same w (b .slot) t)
-        (put-one g w slots n bs (length u) (length t) st j h c eb ez es ea u t refl refl l s pu pt l part-u part-t
+        (put-one g w slots n bs (length u) (length t) st j h c (missed-lies w b u k c e) u t refl refl l s pu pt l part-u part-t
         (tight-sound w b u pt (viewOf g b l) k (s .each j h) room-u within-area pos c e)
         (λ k p ne. refl) (s .homes))

@@ -1,8 +1,7 @@
 -- The live spans are no more than the units in use: every span lies in a block and has a unit. Assumes nothing.
 use Prim.Native.Nat.{ℕ, zero, suc, _+_, _*_, _≤_, _<_}
 use mathlib.Core.List.{List, [], _∷_}
-use mathlib.Core.Bool.{Bool, true, false}
-use mathlib.Core.Path.{_≡_, refl, sym, ap, subst, _∙_}
+use mathlib.Core.Path.{_≡_, sym, subst}
 use native.Mathlib.Nat.{not-suc-le-zero}
 use native.Mathlib.Omega.{arith}
 use lib.ListN.{length}
@@ -12,9 +11,10 @@ use Rattle.sizes.proofs.Cases.{picked}
 use Rattle.state.specs.declared.Span.{Span}
 use Rattle.state.specs.Table.{sum}
 use Rattle.state.proofs.Tests.{sum-le, sum-same}
+use Rattle.shape.proofs.Bools.{by-bool}
 use Rattle.paint.specs.Paint.{Piece, piece, units, Inside}
-use Rattle.ledger.specs.Agrees.{within, view, viewOf, Lies, at, Homes, Agrees}
-use Rattle.ledger.proofs.View.{by-bool, view-other, view-lies}
+use Rattle.ledger.specs.Agrees.{within, view, viewOf, at, Homes, Agrees}
+use Rattle.ledger.proofs.View.{view-lies}
 
 -- one term grows by one at least
 sum-grows : (n : ℕ) (f g : ℕ → ℕ) (k : ℕ) → k < n → ((i : ℕ) → i < n → f i ≤ g i) → f k + 1 ≤ g k → sum n f + 1 ≤ sum n g
@@ -30,7 +30,7 @@ view-grows : (g : ℕ) (b : Block) (x : Span) (l : List Span) → units (viewOf 
 unfolding view units
 view-grows g b x l = by-bool (within (b .base) (b .size) (x .address)) (λ e. rw e (omega arith)) (λ e. rw e (omega arith))
 
-view-inside : (g : ℕ) (b : Block) (x : Span) (l : List Span) → Inside (viewOf g b (x ∷ l)) (b .area) → Inside (viewOf g b l) (b .area)
+pub view-inside : (g : ℕ) (b : Block) (x : Span) (l : List Span) → Inside (viewOf g b (x ∷ l)) (b .area) → Inside (viewOf g b l) (b .area)
 unfolding view
 view-inside g b x l =
     picked (λ (m : List Piece). Inside m (b .area) → Inside (viewOf g b l) (b .area)) (within (b .base) (b .size) (x .address)) _ _ (λ e p. p .2) (λ e p. p)

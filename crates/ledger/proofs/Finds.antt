@@ -1,17 +1,15 @@
 -- In a sound state: what a lookup of an address finds, and what the calls on an address then come to. Assumes nothing.
-use Prim.Native.Nat.{ℕ, zero, suc, _+_, _-_, _*_, _/_, _%_, _≤_, _<_}
+use Prim.Native.Nat.{ℕ, _+_, _-_, _*_, _≤_, _<_}
 use mathlib.Core.List.{List, [], _∷_}
 use mathlib.Core.Bool.{Bool, true, false, not, _||_}
-use mathlib.Core.Logic.{_⊎_, inl, inr, ⊎-elim}
-use mathlib.Core.Path.{_≡_, refl, sym, ap, subst, subst₂, _∙_}
+use mathlib.Core.Path.{_≡_, refl, sym, ap, subst, _∙_}
 use native.Mathlib.Omega.{arith}
-use lib.Dec.{ltb, eqb}
+use lib.Dec.{eqb}
 use lib.ListN.{length}
 use borrow.Author.Tests.{eq-eqb, ne-eqb, le-ltb, lt-ltb}
 use Rattle.numbers.specs.Pick.{pick}
 use Rattle.numbers.specs.Units.{unitsOf, bytesOf}
-use Rattle.numbers.proofs.Split.{by-eq, not-both}
-use Rattle.block.specs.declared.Block.{Block}
+use Rattle.numbers.proofs.Split.{not-both}
 use Rattle.state.specs.declared.State.{State}
 use Rattle.state.specs.declared.Span.{Span}
 use Rattle.state.specs.declared.Found.{Found}
@@ -20,7 +18,7 @@ use Rattle.state.specs.declared.Held.{Held}
 use Rattle.state.specs.declared.Held.the-variants.{NoSpan, NoStop, Units}
 use Rattle.state.specs.declared.Refusal.the-variants.{InvalidArgument, InvalidState, BadShape, Damaged}
 use Rattle.state.specs.declared.Answer.the-variants.{Shown, Shrunk}
-use Rattle.state.specs.Table.{blockAt, poolAt}
+use Rattle.state.specs.Table.{blockAt}
 use Rattle.state.specs.Shape.{goodShape, badShape}
 use Rattle.state.specs.Find.{holds, lookup}
 use Rattle.state.proofs.Find.{Least, least-of}
@@ -31,11 +29,11 @@ use Rattle.rules.specs.Turn.{Turn, turn, refuse, span, unitOf}
 use Rattle.rules.specs.Span.{heldOf, heldIn, shownTurn, queriedTurn, queryTurn}
 use Rattle.rules.specs.Release.{freeTurn, releasedTurn, givenBackTurn, releaseTurn}
 use Rattle.rules.specs.Shrink.{cutTurn, unitsTurn, shrunkTurn, cutDownTurn, shrinkTurn}
-use Rattle.ledger.specs.Ledger.{In, strike}
-use Rattle.ledger.specs.Agrees.{within, viewOf, at, Agrees, Sound}
+use Rattle.ledger.specs.Ledger.{In}
+use Rattle.ledger.specs.Agrees.{within, Sound}
 use Rattle.ledger.proofs.View.{within-range}
 use Rattle.ledger.proofs.Table.{Stands, stands-of}
-use Rattle.ledger.proofs.Look.{Seen, seen, seen-in, Told, held-told}
+use Rattle.ledger.proofs.Look.{seen, seen-in, Told, held-told}
 
 -- a ledger that has an entry isn't empty
 pub some-entry : (l : List Span) (a z : ℕ) → In a z l → 0 < length l

@@ -1,24 +1,19 @@
 -- A block more and a block less: the table and the maps agree with the ledger afterwards. Assumes nothing.
-use Prim.Native.Nat.{ℕ, zero, suc, _+_, _-_, _*_, _≤_, _<_}
+use Prim.Native.Nat.{ℕ, _+_, _-_, _*_, _<_}
 use mathlib.Core.List.{List, [], _∷_}
-use mathlib.Core.Bool.{Bool, true, false}
-use mathlib.Core.Logic.{_⊎_, inl, inr, ⊎-elim}
-use mathlib.Core.Path.{_≡_, refl, sym, ap, ap₂, subst, subst₂, _∙_}
+use mathlib.Core.Path.{_≡_, refl, sym, ap, subst, _∙_}
 use native.Mathlib.Omega.{arith}
-use lib.Dec.{ltb}
 use lib.ListN.{length}
-use borrow.Author.Tests.{lt-ltb, le-ltb}
-use Rattle.numbers.specs.Pick.{pick}
-use Rattle.numbers.proofs.Split.{by-eq, by-le, not-both}
+use Rattle.numbers.proofs.Split.{by-eq}
 use Rattle.slots.specs.Slots.{slotOf}
 use Rattle.block.specs.declared.Block.{Block}
 use Rattle.state.specs.declared.Span.{Span}
-use Rattle.state.specs.Change.{past}
+use Rattle.state.specs.Change.{past, fallen}
 use Rattle.paint.specs.Paint.{Piece, piece, Sound as SoundBlock}
-use Rattle.ledger.specs.Ledger.{In}
-use Rattle.ledger.specs.Agrees.{within, view, viewOf, Lies, at, Homes, Clear, Agrees}
+use Rattle.closed.proofs.Sums.{past-ne, past-low, past-fallen, fallen-low}
+use Rattle.ledger.specs.Agrees.{view, viewOf, Lies, at, Homes, Clear, Agrees}
 use Rattle.ledger.proofs.View.{lies-in, view-other, view-lies}
-use Rattle.ledger.proofs.Table.{Stands, Beside, beside-out, homes-set, one-block, sound-moved}
+use Rattle.ledger.proofs.Table.{Stands, Beside, beside-out, one-block, sound-moved}
 
 -- a block beside all others has none of their spans
 pub view-none : (g n : ℕ) (bs : List Block) (pos : 0 < g) (whole : (j : ℕ) → j < n → at bs j .area * g ≡ at bs j .size) (b : Block) (l : List Span)
@@ -62,21 +57,9 @@ module _ (g w slots n : ℕ) (bs : List Block) (u t : List ℕ) (st : Stands g w
 
   -- ---- a block less: one without spans goes, and its slot is cleared
   module _ (j : ℕ) (h : j < n) where
-    past-at : (k : ℕ) → ((k < j) × (past j k ≡ k)) ⊎ ((j ≤ k) × (past j k ≡ k + 1))
-    past-at k = by-le j k (λ p. inr (p, rw (le-ltb k j p))) (λ p. inl (p, rw (lt-ltb k j p)))
-
-    pub past-in : (k : ℕ) → k < n - 1 → past j k < n
-    past-in k p = ⊎-elim (λ q. omega arith) (λ q. omega arith) (past-at k)
-
-    pub past-not : (k : ℕ) → past j k ≡ j → ⊥
-    past-not k e = ⊎-elim (λ q. omega arith) (λ q. omega arith) (past-at k)
-
     -- the place afterwards
-    pub now-at : (i : ℕ) → i < n → (i ≡ j → ⊥) → (k : ℕ) × (k < n - 1) × (past j k ≡ i)
-    now-at i p ne =
-        by-le j i
-        (λ q. let e : i - 1 + 1 ≡ i = omega (arith, ne) in (i - 1, omega (arith, ne), rw (le-ltb (i - 1) j (omega (arith, ne))) e))
-        (λ q. (i, omega arith, rw (lt-ltb i j q)))
+    now-at : (i : ℕ) → i < n → (i ≡ j → ⊥) → (k : ℕ) × (k < n - 1) × (past j k ≡ i)
+    now-at i p ne = (fallen j i, fallen-low j i n h p ne, past-fallen j i ne)
 
     module _ (stays : (k : ℕ) → k < n - 1 → at cs k ≡ at bs (past j k)) where
       drop-homes : (m : List Span) → viewOf g (at bs j) m ≡ [] → Homes g n bs m → Homes g (n - 1) cs m
@@ -102,9 +85,9 @@ module _ (g w slots n : ℕ) (bs : List Block) (u t : List ℕ) (st : Stands g w
       drop-agrees eu et cu ct none = record {
         each = λ k p.
             let i = past j k in
-            let q = past-in k p in
+            let q = past-low j k n p in
             let r = st .slot i q in
-            let d = st .slots-differ i j q h (past-not k) in
+            let d = st .slots-differ i j q h (past-ne j k) in
             subst (λ (c : Block). SoundBlock c (slotOf w (c .slot) v) (slotOf w (c .slot) y) (viewOf g c l)) (sym (stays k p))
             (sound-moved (at bs i) (sym (eu (at bs i .slot) r d)) (sym (et (at bs i .slot) r d)) refl (s .each i q));
         idle = λ r p f.

@@ -1,8 +1,7 @@
 -- What a lookup finds at an address is what the ledger has there. Assumes nothing.
-use Prim.Native.Nat.{ℕ, zero, suc, _+_, _-_, _*_, _/_, _%_, _≤_, _<_}
-use mathlib.Core.List.{List, [], _∷_}
+use Prim.Native.Nat.{ℕ, _+_, _-_, _*_, _/_, _%_, _≤_, _<_}
+use mathlib.Core.List.{List}
 use mathlib.Core.Bool.{Bool, true, false}
-use mathlib.Core.Logic.{_⊎_, inl, inr, ⊎-elim}
 use mathlib.Core.Path.{_≡_, refl, sym, ap, subst, subst₂, _∙_}
 use native.Mathlib.Nat.{div-add-mod', mul-mod-left, mul-div-cancel}
 use native.Mathlib.Omega.{arith}
@@ -13,17 +12,16 @@ use Rattle.numbers.specs.Pick.{pick}
 use Rattle.numbers.proofs.Split.{by-eq, not-both}
 use Rattle.slots.specs.Slots.{slotOf}
 use Rattle.block.specs.declared.Block.{Block}
-use Rattle.state.specs.declared.State.{State}
 use Rattle.state.specs.declared.Span.{Span}
 use Rattle.state.specs.declared.Held.{Held}
 use Rattle.state.specs.declared.Held.the-variants.{NoSpan, NoStop, Units}
 use Rattle.rules.specs.Span.{heldAt, heldOf}
-use Rattle.paint.specs.Paint.{Piece, In as InPieces}
+use Rattle.paint.specs.Paint.{In as InPieces}
 use Rattle.paint.proofs.Pieces.{in-units}
 use Rattle.paint.proofs.Stands.{Stands as StandsAt, stands}
-use Rattle.ledger.specs.Ledger.{In, strike}
-use Rattle.ledger.specs.Agrees.{within, viewOf, at, Homes, Agrees}
-use Rattle.ledger.proofs.View.{by-bool, lies-in, in-unit, in-view, view-in}
+use Rattle.ledger.specs.Ledger.{In}
+use Rattle.ledger.specs.Agrees.{within, viewOf, at, Agrees}
+use Rattle.ledger.proofs.View.{in-unit, in-view, view-in}
 use Rattle.ledger.proofs.Table.{Stands, home-of, one-block, aligned}
 
 module _ (g w slots n : ℕ) (bs : List Block) (u t : List ℕ) (st : Stands g w slots n bs (length u) (length t)) (l : List Span)

@@ -1,16 +1,15 @@
 -- A block made for a span is right: its slot is cleared, the span is at its unit 0, and it stands beside all others. Assumes nothing.
-use Prim.Native.Nat.{ℕ, zero, suc, _+_, _-_, _*_, _≤_, _<_}
+use Prim.Native.Nat.{ℕ, _+_, _-_, _*_, _≤_, _<_}
 use mathlib.Core.List.{List, [], _∷_}
-use mathlib.Core.Logic.{_⊎_, inl, inr, ⊎-elim}
 use mathlib.Core.Path.{_≡_, refl, sym, ap, ap₂, subst, subst₂, _∙_}
 use native.Mathlib.Nat.{zero-add}
 use native.Mathlib.Omega.{arith}
-use lib.ListN.{length, set, replicate, length-set}
+use lib.ListN.{length, set, length-set}
 use lib.Seq.{getD-set-same, getD-set-other}
-use Rattle.numbers.specs.Units.{unitsOf, bytesOf}
-use Rattle.bits.specs.Bits.{bit, filled}
+use Rattle.numbers.specs.Units.{unitsOf}
+use Rattle.bits.specs.Bits.{filled}
 use Rattle.bits.proofs.Fill.{length-filled}
-use Rattle.slots.specs.Slots.{slotOf, putSlot, fillSlot}
+use Rattle.slots.specs.Slots.{slotOf, fillSlot}
 use Rattle.slots.proofs.Laws.{slot-own, slot-other}
 use Rattle.block.specs.declared.Block.{Block}
 use Rattle.block.specs.Marking.{marked, fresh}
@@ -22,11 +21,12 @@ use Rattle.state.specs.Table.{zeroBlock, blockAt, poolAt}
 use Rattle.state.specs.Change.{inserted}
 use Rattle.shape.specs.Shaped.{Shaped}
 use Rattle.shape.proofs.Shaped.{shaped-is}
-use Rattle.facts.proofs.Facts.{unit-g, count-64}
-use Rattle.facts.proofs.Room.{slot-is, room-left}
+use Rattle.facts.proofs.Facts.{unit-g}
+use Rattle.facts.proofs.Room.{slot-is}
 use Rattle.rules.specs.Turn.{Turn, span, unitOf, clearSlot}
 use Rattle.rules.specs.Alloc.{makeTurn}
 use Rattle.facts.specs.Ready.{Makeable}
+use Rattle.facts.proofs.Made.{length-cleared}
 use Rattle.facts.proofs.Pool.{new-ready}
 use Rattle.facts.proofs.New.{makeable}
 use Rattle.paint.specs.Paint.{Piece, piece, Sound as SoundBlock}
@@ -37,12 +37,11 @@ use Rattle.closed.proofs.Cases.{Places, newSize}
 use Rattle.closed.proofs.After.{inserted-new, inserted-pool}
 use Rattle.closed.proofs.Make.{make-good}
 use Rattle.ledger.specs.Ledger.{enter}
-use Rattle.ledger.specs.Agrees.{within, viewOf, at, Homes, Agrees}
+use Rattle.ledger.specs.Agrees.{viewOf, Agrees}
 use Rattle.ledger.proofs.View.{in-unit, view-new, view-other}
 use Rattle.ledger.proofs.Table.{Stands, Beside, beside-swap, beside-out, slot-room, homes-set, sound-moved}
-use Rattle.ledger.proofs.Calls.{marked-keeps}
 use Rattle.ledger.proofs.Grow.{Elsewhere, view-none, add-agrees}
-use Rattle.ledger.proofs.Cleared.{zeros, long, clear-own, clear-other, clear-length}
+use Rattle.ledger.proofs.Cleared.{zeros, long, clear-own, clear-other}
 use Rattle.ledger.proofs.Right.{Right}
 
 -- ---- a slot cleared, and then a run of it filled
@@ -51,7 +50,7 @@ module _ (w slots k : ℕ) (ws : List ℕ) (i n v : ℕ) (h : k < slots) (room :
   own-room = slot-room w slots k (length ws) h room
 
   cleared-room : (q : ℕ) → q < slots → (q + 1) * w ≤ length (clearSlot w k ws)
-  cleared-room q p = slot-room w slots q (length (clearSlot w k ws)) p (omega (arith, clear-length w k ws own-room))
+  cleared-room q p = slot-room w slots q (length (clearSlot w k ws)) p (omega (arith, length-cleared w k ws own-room))
 
   part-long : length (filled (slotOf w k (clearSlot w k ws)) i n v) ≡ w
   part-long = length-filled (slotOf w k (clearSlot w k ws)) i n v ∙ ap length (clear-own w k ws own-room) ∙ long w
@@ -105,17 +104,8 @@ module _ (r : State) (u t : List ℕ) (l : List Span) (f : Shaped r (length u) (
   abbrev pub block : Block
   block = marked new 0 n
 
-  place-is : block .base ≡ place
-  place-is = marked-keeps (λ c. c .base) new (λ a d e f k. refl) 0 n
-
-  size-is : block .size ≡ size
-  size-is = marked-keeps (λ c. c .size) new (λ a d e f k. refl) 0 n
-
-  slot-same : block .slot ≡ slot
-  slot-same = marked-keeps (λ c. c .slot) new (λ a d e f k. refl) 0 n
-
-  area-same : block .area ≡ area
-  area-same = marked-keeps (λ c. c .area) new (λ a d e f k. refl) 0 n
+  same : Lies block new
+  same = marked-lies new 0 n
 
   pub made-new : blockAt (turned .state) (r .count) ≡ block
   made-new =
@@ -152,7 +142,7 @@ module _ (r : State) (u t : List ℕ) (l : List Span) (f : Shaped r (length u) (
 
   pub ledger-is : enter (turned .answer) l ≡ span (block .base + 0 * r .g) (n * r .g) ∷ l
   ledger-is =
-      ap₂ (λ (b g : ℕ). span (b + 0 * g) (n * g) ∷ l) (ap (λ (b : Block). b .base) last ∙ sym place-is) unit-last
+      ap₂ (λ (b g : ℕ). span (b + 0 * g) (n * g) ∷ l) (ap (λ (b : Block). b .base) last ∙ sym (same .base)) unit-last
 
   pub made-answer : turned .answer ≡ Granted (span place (n * r .g))
   made-answer =
@@ -181,7 +171,7 @@ module _ (r : State) (u t : List ℕ) (l : List Span) (f : Shaped r (length u) (
   whole-new = subst (λ (b : Block). b .area * r .g ≡ b .size) made-new (fm .sound (r .count) (omega arith) .area-size)
 
   some-area : 0 < block .area
-  some-area = omega (arith, area-same, ready .fits)
+  some-area = omega (arith, same .area, ready .fits)
 
   abbrev entered : List Span
   entered = span (block .base + 0 * r .g) (n * r .g) ∷ l
@@ -200,15 +190,15 @@ module _ (r : State) (u t : List ℕ) (l : List Span) (f : Shaped r (length u) (
   sound : SoundBlock block (slotOf (r .w) (block .slot) v) (slotOf (r .w) (block .slot) y) (viewOf (r .g) block entered)
   sound =
       sound-moved block
-      (sym (ap (λ (q : ℕ). slotOf (r .w) q v) slot-same ∙ filled-own (r .w) (r .slots) slot u 0 n 1 slot-low (st .used-room)))
-      (sym (ap (λ (q : ℕ). slotOf (r .w) q y) slot-same ∙ filled-own (r .w) (r .slots) slot t (n - 1) 1 1 slot-low (st .stop-room)))
+      (sym (ap (λ (q : ℕ). slotOf (r .w) q v) (same .slot) ∙ filled-own (r .w) (r .slots) slot u 0 n 1 slot-low (st .used-room)))
+      (sym (ap (λ (q : ℕ). slotOf (r .w) q y) (same .slot) ∙ filled-own (r .w) (r .slots) slot t (n - 1) 1 1 slot-low (st .stop-room)))
       (sym seen) (fresh-sound place size p slot area n (r .w) some (ready .fits) (ready .placed .area))
 
   made-agrees : Agrees (r .g) (r .w) (r .slots) (r .count + 1) (turned .state .blocks) v y entered
   made-agrees =
       add-agrees (r .g) (r .w) (r .slots) (r .count) (r .blocks) u t st l ag (turned .state .blocks) v y block entered made-old made-new made-slot-apart
-      (subst (λ (q : ℕ). Elsewhere (r .w) (r .slots) q u v) (sym slot-same) (filled-other (r .w) (r .slots) slot u 0 n 1 slot-low (st .used-room)))
-      (subst (λ (q : ℕ). Elsewhere (r .w) (r .slots) q t y) (sym slot-same) (filled-other (r .w) (r .slots) slot t (n - 1) 1 1 slot-low (st .stop-room)))
+      (subst (λ (q : ℕ). Elsewhere (r .w) (r .slots) q u v) (sym (same .slot)) (filled-other (r .w) (r .slots) slot u 0 n 1 slot-low (st .used-room)))
+      (subst (λ (q : ℕ). Elsewhere (r .w) (r .slots) q t y) (sym (same .slot)) (filled-other (r .w) (r .slots) slot t (n - 1) 1 1 slot-low (st .stop-room)))
       sound
       (λ i h.
       view-other (r .g) (blockAt r i .base) (blockAt r i .size) (span (block .base + 0 * r .g) (n * r .g)) l

@@ -2,7 +2,7 @@
 use Prim.Native.Nat.{ℕ}
 use mathlib.Core.List.{List, []}
 use mathlib.Core.Bool.{Bool, true, false}
-use mathlib.Core.Path.{_≡_, refl, sym, ap, subst, _∙_}
+use mathlib.Core.Path.{_≡_, refl, sym, subst}
 use native.Mathlib.Omega.{arith}
 use lib.ListN.{length}
 use Rattle.numbers.specs.Pick.{pick}
@@ -13,7 +13,7 @@ use Rattle.state.specs.declared.Answer.the-variants.{Created}
 use Rattle.state.specs.declared.Refusal.the-variants.{InvalidArgument}
 use Rattle.state.specs.Table.{zeroState}
 use Rattle.rules.specs.Turn.{Turn, refuse}
-use Rattle.rules.specs.Create.{Asked, slotsOf, grantable, granted, freshState, createTurn}
+use Rattle.rules.specs.Create.{Asked, slotsOf, grantable, granted, createTurn}
 use Rattle.rules.specs.Machine.{Call, step}
 use Rattle.closed.specs.Sized.{Sized}
 use Rattle.closed.proofs.Sized.{sized-kept}
@@ -23,7 +23,7 @@ use Rattle.closed.proofs.Empty.{created-good}
 use Rattle.ledger.specs.Ledger.{enter}
 use Rattle.ledger.specs.Agrees.{Sound}
 use Rattle.ledger.specs.Reached.{Reached, created, called}
-use Rattle.ledger.proofs.Words.{Wordy, step-words, created-words}
+use Rattle.ledger.proofs.Words.{step-words, created-words}
 use Rattle.ledger.proofs.Step.{step-sound, created-right}
 
 -- a creation that answers Created was granted

@@ -1,21 +1,16 @@
 -- What a call must leave, and the calls on a span that stands: query, release, shrink. Assumes nothing.
-use Prim.Native.Nat.{ℕ, zero, suc, _+_, _-_, _*_, _≤_, _<_}
+use Prim.Native.Nat.{ℕ, _+_, _-_, _*_, _≤_, _<_}
 use mathlib.Core.List.{List, [], _∷_}
-use mathlib.Core.Bool.{Bool, true, false, not, _||_}
-use mathlib.Core.Logic.{_⊎_, inl, inr, ⊎-elim}
+use mathlib.Core.Bool.{false, not, _||_}
+use mathlib.Core.Logic.{_⊎_, ⊎-elim}
 use mathlib.Core.Path.{_≡_, refl, sym, ap, subst, subst₂, _∙_}
-use native.Mathlib.Nat.{zero-add}
 use native.Mathlib.Omega.{arith}
-use lib.Dec.{ltb, eqb}
-use lib.ListN.{length, getD, set}
+use lib.Dec.{eqb}
+use lib.ListN.{length, set}
 use borrow.Author.Tests.{eqb-true, not-false}
-use Rattle.numbers.specs.Pick.{pick}
 use Rattle.numbers.specs.Units.{bytesOf}
 use Rattle.numbers.proofs.Split.{by-eq}
-use Rattle.bits.specs.Bits.{bit, filled}
-use Rattle.bits.proofs.Fill.{length-filled}
-use Rattle.slots.specs.Slots.{slotOf, putSlot, fillSlot}
-use Rattle.slots.proofs.Laws.{length-slot, length-put-slot}
+use Rattle.slots.specs.Slots.{slotOf, fillSlot}
 use Rattle.block.specs.declared.Block.{Block}
 use Rattle.block.specs.Marking.{released, shrunk}
 use Rattle.sizes.proofs.Cases.{picked}
@@ -23,24 +18,28 @@ use Rattle.state.specs.declared.State.{State}
 use Rattle.state.specs.declared.Span.{Span}
 use Rattle.state.specs.declared.Answer.{Answer}
 use Rattle.state.specs.declared.Answer.the-variants.{Released, Shrunk}
-use Rattle.state.specs.Table.{zeroBlock, blockAt, poolAt, sum}
+use Rattle.state.specs.Table.{blockAt, poolAt, sum}
 use Rattle.state.specs.Change.{past, removed}
-use Rattle.state.proofs.Lists.{getD-listFrom}
-use Rattle.shape.specs.Shaped.{Shaped}
-use Rattle.rules.specs.Turn.{Turn, turn, span, putBlock, putPool, withLive, withCounts, unitOf, clearSlot}
-use Rattle.rules.specs.Release.{lessUsed, settle, freeTurn}
+use Rattle.rules.specs.Turn.{Turn, turn, span, putPool, withLive, withCounts, unitOf, clearSlot}
+use Rattle.rules.specs.Release.{lessUsed, freeTurn}
 use Rattle.rules.specs.Shrink.{cutTurn}
-use Rattle.paint.specs.Paint.{Piece, piece, has, ends, held, ended, units, Paints, In as InPieces, strike as strikePiece, Sound as SoundBlock}
-use Rattle.paint.proofs.Pieces.{no-units, Struck}
+use Rattle.paint.specs.Paint.{Piece, piece, held, ended, units, In as InPieces, strike as strikePiece, Sound as SoundBlock}
+use Rattle.paint.proofs.Pieces.{no-units}
 use Rattle.paint.proofs.Paints.{struck-out}
+use Rattle.paint.proofs.Lies.{numbers-lie, released-lies}
+use Rattle.closed.specs.Sized.{Sized}
+use Rattle.closed.proofs.Sums.{past-low}
+use Rattle.closed.proofs.After.{removed-block}
+use Rattle.closed.proofs.Sized.{sized-less, sized-live}
+use Rattle.closed.proofs.Words.{length-fill-slot}
 use Rattle.ledger.specs.Ledger.{In, strike, enter}
-use Rattle.ledger.specs.Agrees.{within, view, viewOf, Lies, at, Homes, Clear, Agrees, Sound}
+use Rattle.ledger.specs.Agrees.{within, viewOf, at, Agrees, Sound}
 use Rattle.ledger.proofs.View.{strike-head, strike-tail, in-unit, in-view, view-new, view-other, view-strike, view-strike-other}
 use Rattle.ledger.proofs.Table.{Stands, slot-room, homes-strike, one-block, aligned, set-stands, sound-moved}
-use Rattle.ledger.proofs.Calls.{released-keeps, release-agrees, shrink-agrees}
+use Rattle.ledger.proofs.Calls.{release-agrees, shrink-agrees}
 use Rattle.ledger.proofs.Count.{live-units}
-use Rattle.ledger.proofs.Grow.{Elsewhere, past-in, drop-agrees}
-use Rattle.ledger.proofs.Cleared.{zeros-clear, clear-own, clear-other, clear-length}
+use Rattle.ledger.proofs.Grow.{drop-agrees}
+use Rattle.ledger.proofs.Cleared.{zeros-clear, clear-own, clear-other}
 use Rattle.ledger.proofs.Finds.{shaped, stands, unit-is}
 
 -- The table and the maps agree with the ledger that the answer leaves, the live count is its length, and no more than the units in use. So the state
@@ -75,16 +74,6 @@ length-strike (x ∷ l) a z i =
 pub stands-long : {g w slots n : ℕ} {bs : List Block} {a b c d : ℕ} → a ≡ c → b ≡ d → Stands g w slots n bs a b → Stands g w slots n bs c d
 stands-long {g} {w} {slots} {n} {bs} p q st = subst₂ (λ (x y : ℕ). Stands g w slots n bs x y) p q st
 
-pub length-fill : (w slots k : ℕ) (ws : List ℕ) (i n v : ℕ) → k < slots → slots * w ≤ length ws → length (fillSlot w k ws i n v) ≡ length ws
-length-fill w slots k ws i n v h room =
-    let r = slot-room w slots k (length ws) h room in
-    length-put-slot w k ws (filled (slotOf w k ws) i n v) r (length-filled (slotOf w k ws) i n v ∙ length-slot w k ws r)
-
--- a block that stands behind one that goes moves up
-pub moved-at : (s : State) (j k : ℕ) → k < 64 → blockAt (removed s j) k ≡ blockAt s (past j k)
-moved-at s j k h =
-    getD-listFrom 0 64 (λ i. getD (s .blocks) (past j i) zeroBlock) zeroBlock k h ∙ ap (λ (i : ℕ). getD (s .blocks) (past j i) zeroBlock) (zero-add k)
-
 -- ---- a piece struck and entered again paints the same
 again-sound : (b : Block) (u t : List ℕ) (l : List Piece) (i n : ℕ) → SoundBlock b u t l → InPieces i n l → 0 < n → i + n ≤ b .area → SoundBlock b u t (piece i n ∷ strikePiece i l)
 unfolding held ended units
@@ -101,9 +90,9 @@ again-sound b u t l i n s m pos fits =
       exact = s .exact;
     }
 
-module _ (s : State) (u t : List ℕ) (l : List Span) (o : Sound s u t l) (len : length (s .blocks) ≡ 64) where
+module _ (s : State) (u t : List ℕ) (l : List Span) (o : Sound s u t l) (z : Sized s) where
   abbrev st : Stands (s .g) (s .w) (s .slots) (s .count) (s .blocks) (length u) (length t)
-  st = stands s u t l o len
+  st = stands s u t l o (z .blocks)
 
   -- ---- nothing changes
   pub same-right : (answer : Answer) → enter answer l ≡ l → Right l (turn answer s u t)
@@ -122,7 +111,7 @@ module _ (s : State) (u t : List ℕ) (l : List Span) (o : Sound s u t l) (len :
     low = omega arith
 
     end-low : b .end ≤ b .area
-    end-low = shaped s u t l o len .sound j h .end
+    end-low = shaped s u t l o (z .blocks) .sound j h .end
 
     -- ---- a shrink to the same units
     pub again-right : Right l (turn (Shrunk (span a ((e - i) * s .g))) s u t)
@@ -158,9 +147,9 @@ module _ (s : State) (u t : List ℕ) (l : List Span) (o : Sound s u t l) (len :
     cut-right n pos less =
         let g = s .g in
         let c = shrunk b (i + n) e in
-        let unit = unit-is s u t l o len j h in
+        let unit = unit-is s u t l o (z .blocks) j h in
         let z = shrink-agrees g (s .w) (s .slots) (s .count) (s .blocks) u t st l (o .agrees) j h end-low i n e pos (omega arith) low own in
-        let w = set-stands g (s .w) (s .slots) (s .count) (s .blocks) (length u) (length t) st j h c refl refl refl refl in
+        let w = set-stands g (s .w) (s .slots) (s .count) (s .blocks) (length u) (length t) st j h c (numbers-lie b _ _ _ _ _) in
         right-of l (cutTurn s u t a j i e n) (st .unit) (w .whole)
         (subst₂ (λ (x k : ℕ). Agrees g (s .w) (s .slots) (s .count) (set (s .blocks) j c) (fillSlot (s .w) (b .slot) u (i + n) (e - (i + n)) 0)
         (fillSlot (s .w) (b .slot) (fillSlot (s .w) (b .slot) t (e - 1) 1 0) (i + n - 1) 1 1) (span x (n * k) ∷ strike x l)) (sym ea) (sym unit) z)
@@ -176,6 +165,9 @@ module _ (s : State) (u t : List ℕ) (l : List Span) (o : Sound s u t l) (len :
     abbrev y : List ℕ
     y = fillSlot (s .w) (blockAt s j .slot) t (e - 1) 1 0
 
+    after-sized : Sized after
+    after-sized = sized-live (lessUsed s j (released b i e) (e - i)) (sized-less s z j (released b i e) (e - i)) (s .live - 1)
+
     freed-agrees : Agrees (s .g) (s .w) (s .slots) (s .count) (after .blocks) v y (strike a l)
     freed-agrees =
         subst (λ (x : ℕ). Agrees (s .g) (s .w) (s .slots) (s .count) (after .blocks) v y (strike x l)) (sym ea)
@@ -183,11 +175,9 @@ module _ (s : State) (u t : List ℕ) (l : List Span) (o : Sound s u t l) (len :
 
     freed-stands : Stands (s .g) (s .w) (s .slots) (s .count) (after .blocks) (length v) (length y)
     freed-stands =
-        stands-long (sym (length-fill (s .w) (s .slots) (b .slot) u i (e - i) 0 (st .slot j h) (st .used-room)))
-        (sym (length-fill (s .w) (s .slots) (b .slot) t (e - 1) 1 0 (st .slot j h) (st .stop-room)))
-        (set-stands (s .g) (s .w) (s .slots) (s .count) (s .blocks) (length u) (length t) st j h (released b i e)
-        (released-keeps (λ c. c .base) b (λ a d e f k. refl) i e) (released-keeps (λ c. c .size) b (λ a d e f k. refl) i e)
-        (released-keeps (λ c. c .slot) b (λ a d e f k. refl) i e) (released-keeps (λ c. c .area) b (λ a d e f k. refl) i e))
+        stands-long (sym (length-fill-slot (s .w) (b .slot) u i (e - i) 0 (slot-room (s .w) (s .slots) (b .slot) (length u) (st .slot j h) (st .used-room))))
+        (sym (length-fill-slot (s .w) (b .slot) t (e - 1) 1 0 (slot-room (s .w) (s .slots) (b .slot) (length t) (st .slot j h) (st .stop-room))))
+        (set-stands (s .g) (s .w) (s .slots) (s .count) (s .blocks) (length u) (length t) st j h (released b i e) (released-lies b i e))
 
     freed-live : s .live - 1 ≡ length (strike a l)
     freed-live = omega (arith, o .live, length-strike l a ((e - i) * s .g) mem)
@@ -210,7 +200,7 @@ module _ (s : State) (u t : List ℕ) (l : List Span) (o : Sound s u t l) (len :
         (no-units (viewOf (s .g) (blockAt after j) (strike a l)) (blockAt after j .area) (c .paints .inside) (sym (c .count) ∙ none))
       where
         stays : (k : ℕ) → k < s .count - 1 → at (removed after j .blocks) k ≡ blockAt after (past j k)
-        stays k q = moved-at after j k (omega (arith, shaped s u t l o len .head .count-slots, shaped s u t l o len .head .slots-high))
+        stays k q = removed-block after after-sized j k (omega (arith, shaped s u t l o (z .blocks) .head .count-slots, shaped s u t l o (z .blocks) .head .slots-high))
 
     pub free-right : Right l (freeTurn s u t a j i e)
     free-right =
@@ -225,6 +215,6 @@ module _ (s : State) (u t : List ℕ) (l : List Span) (o : Sound s u t l) (len :
       where
         whole-gone : Whole (s .g) (s .count - 1) (removed after j .blocks)
         whole-gone k q =
-            let few = shaped s u t l o len .head in
-            subst (λ (c : Block). c .area * s .g ≡ c .size) (sym (moved-at after j k (omega (arith, few .count-slots, few .slots-high))))
-            (freed-stands .whole (past j k) (past-in (s .g) (s .w) (s .slots) (s .count) (after .blocks) v y freed-stands (strike a l) freed-agrees (removed after j .blocks) v y j h k q))
+            let few = shaped s u t l o (z .blocks) .head in
+            subst (λ (c : Block). c .area * s .g ≡ c .size) (sym (removed-block after after-sized j k (omega (arith, few .count-slots, few .slots-high))))
+            (freed-stands .whole (past j k) (past-low j k (s .count) q))

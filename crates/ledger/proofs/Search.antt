@@ -1,24 +1,20 @@
 -- The search of a pool: what it leaves agrees with the ledger as before, and it finds the first block by age that has a place anywhere in its
 -- area, and its lowest place. Assumes nothing.
-use Prim.Native.Nat.{ℕ, zero, suc, _+_, _-_, _*_, _≤_, _<_}
+use Prim.Native.Nat.{ℕ, zero, suc, _+_, _≤_, _<_}
 use mathlib.Core.Bool.{Bool, true, false}
 use mathlib.Core.List.{List}
-use mathlib.Core.Logic.{_⊎_, ⊎-elim, inl, inr}
 use mathlib.Core.Path.{_≡_, refl, sym, ap, subst, _∙_}
 use native.Mathlib.Omega.{arith}
 use borrow.Author.Tests.{eqb-true, eqb-false}
-use lib.Dec.{eqb}
-use lib.ListN.{length, set}
+use lib.ListN.{length}
 use lib.Seq.{getD-set-same, getD-set-other}
 use Rattle.numbers.specs.Pick.{pick}
 use Rattle.numbers.proofs.Split.{by-eq}
-use Rattle.bits.proofs.Count.{ones-le}
-use Rattle.runs.specs.Window.{NoFit, Lowest}
 use Rattle.slots.specs.Slots.{slotOf}
 use Rattle.block.specs.declared.Block.{Block}
 use Rattle.block.specs.declared.Looked.{Looked}
 use Rattle.block.specs.declared.Looked.the-variants.{Found, Missed}
-use Rattle.block.specs.Search.{tightened, lookInto}
+use Rattle.block.specs.Search.{lookInto}
 use Rattle.block.specs.Window.{Windowed}
 use Rattle.block.proofs.Window.{look-found, look-missed}
 use Rattle.state.specs.declared.State.{State}
@@ -30,13 +26,13 @@ use Rattle.state.specs.Table.{zeroBlock, blockAt}
 use Rattle.state.specs.Shape.{inPool}
 use Rattle.state.specs.Change.{withTable}
 use Rattle.rules.specs.Turn.{putBlock}
-use Rattle.rules.specs.Alloc.{searched, after, searchFrom, searchPool}
-use Rattle.facts.proofs.Search.{Told, told}
+use Rattle.rules.specs.Alloc.{after, searchFrom, searchPool}
 use Rattle.paint.proofs.Sound.{sound-windowed}
-use Rattle.ledger.specs.Agrees.{viewOf, at, Agrees}
+use Rattle.paint.proofs.Lies.{missed-lies}
+use Rattle.ledger.specs.Agrees.{viewOf, Agrees}
 use Rattle.ledger.specs.First.{NoPlace, LowestPlace, FirstFrom}
 use Rattle.ledger.proofs.Table.{Stands, set-stands}
-use Rattle.ledger.proofs.Calls.{part-u, room-u, missed-agrees}
+use Rattle.ledger.proofs.Calls.{room-u, missed-agrees}
 
 module _ (u t : List ℕ) (l : List Span) (p n : ℕ) (pos : 0 < n) where
   -- what a state needs for a search
@@ -93,40 +89,25 @@ module _ (u t : List ℕ) (l : List Span) (p n : ℕ) (pos : 0 < n) where
         sound-windowed b (slotOf (s .w) (b .slot) u) (slotOf (s .w) (b .slot) t) (viewOf (s .g) b l) (r .agrees .each i h)
         (room-u (s .g) (s .w) (s .slots) (s .count) (s .blocks) u t (r .stands) l (r .agrees) i h) (r .ends i h)
 
-    used-low : b .used ≤ b .area
-    used-low = omega (arith, windowed .count, ones-le (slotOf (s .w) (b .slot) u) 0 (b .area))
-
-    -- the block tightened, or as it was: it lies where it lay
-    pub record Lies (c : Block) : Type 0 where
-      pub base : c .base ≡ b .base
-      pub size : c .size ≡ b .size
-      pub slot : c .slot ≡ b .slot
-      pub area : c .area ≡ b .area
-
-    lies : (c : Block) → Told b n (Missed c) → Lies c
-    lies c (inl e) = record { base = ap (λ (x : Block). x .base) e; size = ap (λ (x : Block). x .size) e; slot = ap (λ (x : Block). x .slot) e; area = ap (λ (x : Block). x .area) e }
-    lies c (inr q) = record { base = ap (λ (x : Block). x .base) (q .3); size = ap (λ (x : Block). x .size) (q .3); slot = ap (λ (x : Block). x .slot) (q .3); area = ap (λ (x : Block). x .area) (q .3) }
-
-    ready-put : (c : Block) → lookInto (s .w) b u n ≡ Missed c → Lies c → c .end ≤ c .area → Ready (putBlock s i c)
-    ready-put c e y end = record {
-      stands = set-stands (s .g) (s .w) (s .slots) (s .count) (s .blocks) (length u) (length t) (r .stands) i h c (y .base) (y .size) (y .slot) (y .area);
-      agrees = missed-agrees (s .g) (s .w) (s .slots) (s .count) (s .blocks) u t (r .stands) l (r .agrees) i h (r .ends i h) n pos c e (y .base) (y .size) (y .slot) (y .area);
+    ready-put : (c : Block) → lookInto (s .w) b u n ≡ Missed c → c .end ≤ c .area → Ready (putBlock s i c)
+    ready-put c e end = record {
+      stands = set-stands (s .g) (s .w) (s .slots) (s .count) (s .blocks) (length u) (length t) (r .stands) i h c (missed-lies (s .w) b u n c e);
+      agrees = missed-agrees (s .g) (s .w) (s .slots) (s .count) (s .blocks) u t (r .stands) l (r .agrees) i h (r .ends i h) n pos c e;
       ends = λ j q. by-eq j i
           (λ z. subst (λ (j : ℕ). blockAt (putBlock s i c) j .end ≤ blockAt (putBlock s i c) j .area) (sym z)
           (subst (λ (x : Block). x .end ≤ x .area) (sym (getD-set-same (s .blocks) i c zeroBlock (omega (arith, h, r .stands .few)))) end))
           (λ ne. subst (λ (x : Block). x .end ≤ x .area) (sym (getD-set-other (s .blocks) i j c zeroBlock ne)) (r .ends j q));
     }
 
-    after-combed : (rest : State → Searched) → Rest rest (suc i) (s .count) → b .pool ≡ p → (x : Looked) → lookInto (s .w) b u n ≡ x → Told b n x → Combed s i (after s i rest x)
-    after-combed rest ih e (Found k) z q = record {
+    after-combed : (rest : State → Searched) → Rest rest (suc i) (s .count) → b .pool ≡ p → (x : Looked) → lookInto (s .w) b u n ≡ x → Combed s i (after s i rest x)
+    after-combed rest ih e (Found k) z = record {
       ready = r;
       only = refl;
       first = (omega arith, h, e, look-found (s .w) b u n windowed pos k .0 z, λ o a c f. absurd (omega arith));
     }
-    after-combed rest ih e (Missed c) z q =
-        let y = lies c q in
+    after-combed rest ih e (Missed c) z =
         let m = look-missed (s .w) b u n windowed pos c z in
-        let x = ih (putBlock s i c) refl (ready-put c z y (m .1 .within)) in
+        let x = ih (putBlock s i c) refl (ready-put c z (m .1 .within)) in
         record {
           ready = x .ready;
           only = x .only;
@@ -143,7 +124,6 @@ module _ (u t : List ℕ) (l : List Span) (p n : ℕ) (pos : 0 < n) where
       go ih true z =
           let h : i < s .count = omega arith in
           after-combed s i h r (searchFrom u p n (suc i) k) ih (eqb-true (blockAt s i .pool) p z) (lookInto (s .w) (blockAt s i) u n) refl
-          (told (s .w) (blockAt s i) u n pos (r .ends i h) (used-low s i h r))
       go ih false z =
           let x = ih s refl r in
           record { ready = x .ready; only = x .only; first = first-more s i (λ f. absurd (eqb-false (blockAt s i .pool) p z f)) (searchFrom u p n (suc i) k s .hit) (x .first) }

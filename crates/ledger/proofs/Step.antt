@@ -1,8 +1,8 @@
 -- Every call on a sound state leaves a sound one, with the ledger that its answer leaves. Assumes nothing.
 use Prim.Native.Nat.{ℕ, zero, suc, _+_, _-_, _*_, _≤_, _<_}
-use mathlib.Core.List.{List, [], _∷_}
+use mathlib.Core.List.{List, []}
 use mathlib.Core.Bool.{Bool, true, false}
-use mathlib.Core.Logic.{_⊎_, inl, inr, ⊎-elim}
+use mathlib.Core.Logic.{_⊎_, ⊎-elim}
 use mathlib.Core.Path.{_≡_, refl, sym, ap, ap₂, subst, subst₂, _∙_}
 use native.Mathlib.Omega.{arith}
 use lib.ListN.{length}
@@ -10,30 +10,25 @@ use borrow.Author.Tests.{le-leb}
 use Rattle.numbers.specs.Units.{unitsOf}
 use Rattle.numbers.proofs.Units.{units-hold}
 use Rattle.numbers.proofs.Split.{by-eq, by-le}
-use Rattle.bits.specs.Bits.{bit}
 use Rattle.runs.specs.Window.{FreeAt}
 use Rattle.slots.specs.Slots.{slotOf}
-use Rattle.block.specs.declared.Block.{Block}
-use Rattle.block.specs.Marking.{emptied}
 use Rattle.sizes.proofs.Pools.{pool-below}
 use Rattle.sizes.proofs.Cases.{picked}
 use Rattle.state.specs.declared.State.{State}
 use Rattle.state.specs.declared.Span.{Span}
-use Rattle.state.specs.declared.Found.the-variants.{At as foundAt, Nothing}
-use Rattle.state.specs.declared.Hit.the-variants.{At, Nowhere}
-use Rattle.state.specs.declared.Held.the-variants.{NoSpan, Units}
+use Rattle.state.specs.declared.Found.the-variants.{Nothing}
+use Rattle.state.specs.declared.Hit.the-variants.{At}
+use Rattle.state.specs.declared.Held.the-variants.{NoSpan}
 use Rattle.state.specs.declared.Refusal.{Refusal}
 use Rattle.state.specs.declared.Refusal.the-variants.{InvalidArgument, InvalidState, NoMapping}
 use Rattle.state.specs.declared.Answer.the-variants.{Shown, Shrunk, Reset, Refused}
 use Rattle.state.specs.Table.{blockAt, sum}
-use Rattle.state.specs.Shape.{goodShape}
 use Rattle.shape.specs.Shaped.{Shaped}
-use Rattle.shape.proofs.Shaped.{shaped-is}
 use Rattle.facts.proofs.Search.{Left, Place}
 use Rattle.facts.proofs.Cleared.{slots-room}
 use Rattle.facts.proofs.Pool.{whole, units-kept}
-use Rattle.rules.specs.Turn.{Turn, turn, refuse, span}
-use Rattle.rules.specs.Create.{Asked, slotsOf, grantable, granted}
+use Rattle.rules.specs.Turn.{turn, refuse, span}
+use Rattle.rules.specs.Create.{Asked, slotsOf, granted}
 use Rattle.rules.specs.Alloc.{allocTurn, markTurn, makeTurn}
 use Rattle.rules.specs.Span.{queryTurn}
 use Rattle.rules.specs.Release.{releaseTurn}
@@ -44,12 +39,12 @@ use Rattle.closed.specs.Sized.{Sized}
 use Rattle.closed.proofs.Cases.{Seeks, Places, poolFor, unitsFor, searchFor, newSize, create-cases, reset-cases}
 use Rattle.closed.proofs.Sized.{sized-search}
 use Rattle.closed.proofs.Request.{seeks-some, seeks-ready, seeks-left}
-use Rattle.closed.proofs.Soft.{KeptFrom, kept-from}
+use Rattle.closed.proofs.Soft.{kept-from}
 use Rattle.closed.proofs.Closed.{closed}
-use Rattle.ledger.specs.Ledger.{In, enter}
+use Rattle.ledger.specs.Ledger.{enter}
 use Rattle.ledger.specs.Agrees.{at, Clear, Agrees, Sound}
 use Rattle.ledger.specs.First.{FirstFrom}
-use Rattle.ledger.proofs.Table.{Stands, stands-of, slot-room}
+use Rattle.ledger.proofs.Table.{Stands, slot-room}
 use Rattle.ledger.proofs.Cleared.{zeros, zeros-clear, clear-either, created-zeros, emptied-agrees}
 use Rattle.ledger.proofs.Search.{Ready, Combed, search-combed}
 use Rattle.ledger.proofs.Finds.{Finds, nowhere, nothing, entry, finds, shaped, stands, query-at, query-held, query-entry, release-zero, release-at, release-held, release-entry, shrink-release, shrink-zero, shrink-at, shrink-held, shrink-units, units-more, units-same, units-less}
@@ -84,7 +79,7 @@ module _ (s : State) (u t : List ℕ) (l : List Span) (o : Sound s u t l) (z : S
   f = shaped s u t l o (z .blocks)
 
   refused-right : (why : Refusal) → Right l (refuse why s u t)
-  refused-right why = same-right s u t l o (z .blocks) (Refused why) refl
+  refused-right why = same-right s u t l o z (Refused why) refl
 
   -- ---- query
   query-right : (a : ℕ) → Right l (queryTurn s u t a)
@@ -93,7 +88,7 @@ module _ (s : State) (u t : List ℕ) (l : List Span) (o : Sound s u t l) (z : S
       go : Finds s u t l a → Right l (queryTurn s u t a)
       go (nowhere e none) = subst (Right l) (sym (query-at s u t l o (z .blocks) a Nothing e)) (refused-right InvalidArgument)
       go (nothing j h e y none) = subst (Right l) (sym (query-held s u t l o (z .blocks) a j NoSpan e y)) (refused-right InvalidArgument)
-      go (entry j i k h e y some fits ea mem used) = subst (Right l) (sym (query-entry s u t l o (z .blocks) a j i k h e y)) (same-right s u t l o (z .blocks) (Shown (span a ((k - i) * s .g))) refl)
+      go (entry j i k h e y some fits ea mem used) = subst (Right l) (sym (query-entry s u t l o (z .blocks) a j i k h e y)) (same-right s u t l o z (Shown (span a ((k - i) * s .g))) refl)
 
   -- ---- release
   release-right : (a : ℕ) → Right l (releaseTurn s u t a)
@@ -104,7 +99,7 @@ module _ (s : State) (u t : List ℕ) (l : List Span) (o : Sound s u t l) (z : S
       go ne (nowhere e none) = subst (Right l) (sym (release-at s u t l o (z .blocks) a Nothing ne e)) (refused-right InvalidState)
       go ne (nothing j h e y none) = subst (Right l) (sym (release-held s u t l o (z .blocks) a j NoSpan ne e y)) (refused-right InvalidArgument)
       go ne (entry j i k h e y some fits ea mem used) =
-          subst (Right l) (sym (release-entry s u t l o (z .blocks) a j i k ne e y mem used)) (free-right s u t l o (z .blocks) a j i k h some fits ea mem)
+          subst (Right l) (sym (release-entry s u t l o (z .blocks) a j i k ne e y mem used)) (free-right s u t l o z a j i k h some fits ea mem)
 
   -- ---- shrink
   shrink-right : (a size : ℕ) → Right l (shrinkTurn s u t a size)
@@ -121,8 +116,8 @@ module _ (s : State) (u t : List ℕ) (l : List Span) (o : Sound s u t l) (z : S
           let is = shrink-units s u t l o (z .blocks) a size j i k ns ne h e y used in
           by-le n (k - i)
           (λ p. by-eq n (k - i)
-          (λ q. subst (Right l) (sym (is ∙ units-same s u t l o (z .blocks) a j i k n h q ∙ ap (λ (m : ℕ). turn (Shrunk (span a (m * s .g))) s u t) q)) (again-right s u t l o (z .blocks) a j i k h some fits ea mem))
-          (λ nq. subst (Right l) (sym (is ∙ units-less s u t l o (z .blocks) a j i k n (omega (arith, nq)))) (cut-right s u t l o (z .blocks) a j i k h some fits ea mem n (units-some size (s .g) (st .unit) ns) (omega (arith, nq)))))
+          (λ q. subst (Right l) (sym (is ∙ units-same s u t l o (z .blocks) a j i k n h q ∙ ap (λ (m : ℕ). turn (Shrunk (span a (m * s .g))) s u t) q)) (again-right s u t l o z a j i k h some fits ea mem))
+          (λ nq. subst (Right l) (sym (is ∙ units-less s u t l o (z .blocks) a j i k n (omega (arith, nq)))) (cut-right s u t l o z a j i k h some fits ea mem n (units-some size (s .g) (st .unit) ns) (omega (arith, nq)))))
           (λ p. subst (Right l) (sym (is ∙ units-more s u t l o (z .blocks) a j i k n p)) (refused-right InvalidState))
 
   -- ---- alloc

@@ -1,28 +1,26 @@
 -- From one block to the table: a change in one block, its slot's words and its spans keeps the rest. Assumes nothing.
-use Prim.Native.Nat.{ℕ, zero, suc, _+_, _-_, _*_, _≤_, _<_}
+use Prim.Native.Nat.{ℕ, _+_, _*_, _≤_, _<_}
 use mathlib.Core.List.{List, [], _∷_}
-use mathlib.Core.Bool.{Bool, true, false}
+use mathlib.Core.Bool.{true, false}
 use mathlib.Core.Logic.{_⊎_, inl, inr, ⊎-elim}
-use mathlib.Core.Path.{_≡_, refl, sym, ap, ap₂, subst, subst₂, _∙_}
+use mathlib.Core.Path.{_≡_, sym, ap, subst, subst₂, _∙_}
 use native.Mathlib.Nat.{mul-le-mul-right}
 use native.Mathlib.Omega.{arith}
-use lib.Dec.{eqb}
-use lib.ListN.{length, getD, set, length-set}
+use lib.ListN.{length, set, length-set}
 use lib.Seq.{getD-set-same, getD-set-other}
-use borrow.Author.Tests.{eq-eqb, ne-eqb}
-use Rattle.numbers.specs.Pick.{pick}
 use Rattle.numbers.proofs.Split.{by-eq, by-le, not-both}
 use Rattle.slots.specs.Slots.{slotOf, putSlot}
-use Rattle.slots.proofs.Laws.{length-put-slot, slot-own, slot-other, put-slot-same, length-slot}
+use Rattle.slots.proofs.Laws.{slot-own, slot-other}
 use Rattle.block.specs.declared.Block.{Block}
 use Rattle.state.specs.declared.State.{State}
 use Rattle.state.specs.declared.Span.{Span}
 use Rattle.state.specs.Table.{zeroBlock, blockAt}
 use Rattle.shape.specs.Shaped.{Shaped}
 use Rattle.paint.specs.Paint.{Piece, Sound as SoundBlock}
+use Rattle.paint.proofs.Lies.{Lies as LiesAt}
 use Rattle.ledger.specs.Ledger.{In, strike}
 use Rattle.ledger.specs.Agrees.{within, viewOf, Lies, at, Homes, Clear, Agrees}
-use Rattle.ledger.proofs.View.{by-bool, within-false, within-range, in-unit, lies-in, Aligned, view-same, lies-same, strike-head, strike-tail}
+use Rattle.ledger.proofs.View.{within-false, within-range, lies-in, Aligned, view-same, lies-same, strike-head, strike-tail}
 
 -- two blocks share no byte
 abbrev pub Beside : Block → Block → Type 0
@@ -118,7 +116,7 @@ sound-moved c {p} {q} {p′} {q′} {v} {v′} a b d so =
 
 -- ---- block j becomes b, in the same place
 module _ (g w slots n : ℕ) (bs : List Block) (lu lt : ℕ) (st : Stands g w slots n bs lu lt) (j : ℕ) (h : j < n) (b : Block)
-    (eb : b .base ≡ at bs j .base) (ez : b .size ≡ at bs j .size) (es : b .slot ≡ at bs j .slot) (ea : b .area ≡ at bs j .area) where
+    (same : LiesAt b (at bs j)) where
   pub set-here : at (set bs j b) j ≡ b
   set-here = getD-set-same bs j b zeroBlock (omega (arith, st .few))
 
@@ -129,16 +127,16 @@ module _ (g w slots n : ℕ) (bs : List Block) (lu lt : ℕ) (st : Stands g w sl
   like f e i = by-eq i j (λ q. ap (λ (k : ℕ). f (at (set bs j b) k)) q ∙ ap f set-here ∙ e ∙ ap (λ (k : ℕ). f (at bs k)) (sym q)) (λ ne. ap f (set-there i ne))
 
   pub set-base : (i : ℕ) → at (set bs j b) i .base ≡ at bs i .base
-  set-base = like (λ c. c .base) eb
+  set-base = like (λ c. c .base) (same .base)
 
   pub set-size : (i : ℕ) → at (set bs j b) i .size ≡ at bs i .size
-  set-size = like (λ c. c .size) ez
+  set-size = like (λ c. c .size) (same .size)
 
   pub set-slot : (i : ℕ) → at (set bs j b) i .slot ≡ at bs i .slot
-  set-slot = like (λ c. c .slot) es
+  set-slot = like (λ c. c .slot) (same .slot)
 
   pub set-area : (i : ℕ) → at (set bs j b) i .area ≡ at bs i .area
-  set-area = like (λ c. c .area) ea
+  set-area = like (λ c. c .area) (same .area)
 
   pub set-stands : Stands g w slots n (set bs j b) lu lt
   set-stands = record {
@@ -195,10 +193,10 @@ module _ (g w slots n : ℕ) (bs : List Block) (lu lt : ℕ) (st : Stands g w sl
             → SoundBlock (at (set bs j b) j) (slotOf w (at (set bs j b) j .slot) (putSlot w k u x)) (slotOf w (at (set bs j b) j .slot) (putSlot w k t y)) (viewOf g (at (set bs j b) j) m)
         here x y m lx ly so =
             let kj = st .slot j h in
-            let eu : slotOf w (b .slot) (putSlot w k u x) ≡ x = ap (λ (r : ℕ). slotOf w r (putSlot w k u x)) es ∙ slot-own w k u x (room-u k kj) lx in
-            let et : slotOf w (b .slot) (putSlot w k t y) ≡ y = ap (λ (r : ℕ). slotOf w r (putSlot w k t y)) es ∙ slot-own w k t y (room-t k kj) ly in
+            let eu : slotOf w (b .slot) (putSlot w k u x) ≡ x = ap (λ (r : ℕ). slotOf w r (putSlot w k u x)) (same .slot) ∙ slot-own w k u x (room-u k kj) lx in
+            let et : slotOf w (b .slot) (putSlot w k t y) ≡ y = ap (λ (r : ℕ). slotOf w r (putSlot w k t y)) (same .slot) ∙ slot-own w k t y (room-t k kj) ly in
             subst (λ (c : Block). SoundBlock c (slotOf w (c .slot) (putSlot w k u x)) (slotOf w (c .slot) (putSlot w k t y)) (viewOf g c m)) (sym set-here)
-            (sound-moved b (sym eu) (sym et) (sym (view-same g b (at bs j) m eb ez)) so)
+            (sound-moved b (sym eu) (sym et) (sym (view-same g b (at bs j) m (same .base) (same .size))) so)
 
         there : (i : ℕ) (m : List Span) {p q : List ℕ} → p ≡ slotOf w (at bs i .slot) u → q ≡ slotOf w (at bs i .slot) t → viewOf g (at bs i) m ≡ viewOf g (at bs i) l
             → SoundBlock (at bs i) (slotOf w (at bs i .slot) u) (slotOf w (at bs i .slot) t) (viewOf g (at bs i) l) → SoundBlock (at bs i) p q (viewOf g (at bs i) m)

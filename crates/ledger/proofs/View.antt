@@ -1,27 +1,23 @@
 -- The ledger seen from one block: a span entered, struck or looked for in the whole is so in the block's own units. Assumes nothing.
-use Prim.Native.Nat.{ℕ, zero, suc, _+_, _-_, _*_, _/_, _≤_, _<_}
+use Prim.Native.Nat.{ℕ, _+_, _-_, _*_, _/_, _≤_, _<_}
 use mathlib.Core.List.{List, [], _∷_}
-use mathlib.Core.Bool.{Bool, true, false, _&&_}
+use mathlib.Core.Bool.{Bool, true, false}
 use mathlib.Core.Logic.{_⊎_, inl, inr, ⊎-elim}
 use mathlib.Core.Path.{_≡_, refl, sym, ap, ap₂, subst, _∙_}
 use native.Mathlib.Nat.{mul-lt-mul-of-pos-right, eq-of-mul-eq-mul-right, add-sub-cancel-left, mul-div-cancel}
 use native.Mathlib.Omega.{arith}
-use lib.Dec.{leb, ltb, eqb}
+use lib.Dec.{leb, ltb}
 use borrow.Author.Tests.{lt-ltb, le-ltb, le-leb, lt-leb, eq-eqb, ne-eqb, leb-true, ltb-true}
 use Rattle.numbers.specs.Pick.{pick}
-use Rattle.numbers.proofs.Split.{by-eq, by-le, not-both}
+use Rattle.numbers.proofs.Split.{by-eq, not-both}
 use Rattle.block.specs.declared.Block.{Block}
 use Rattle.state.specs.declared.Span.{Span}
 use Rattle.state.proofs.Tests.{and-left, and-right, and-both, and-fails-left, and-fails-right}
+use Rattle.shape.proofs.Bools.{by-bool}
 use Rattle.rules.specs.Turn.{span}
 use Rattle.paint.specs.Paint.{Piece, piece, In as InPieces, strike as strikePiece}
 use Rattle.ledger.specs.Ledger.{In, strike}
 use Rattle.ledger.specs.Agrees.{within, view, viewOf, Lies}
-
--- by cases of a test, with its equation
-pub by-bool : {A : Type 0} (b : Bool) → (b ≡ true → A) → (b ≡ false → A) → A
-by-bool true f g = f refl
-by-bool false f g = g refl
 
 -- ---- an address is one of the bytes
 pub within-true : (base size a : ℕ) → base ≤ a → a < base + size → within base size a ≡ true

@@ -1,11 +1,11 @@
 -- Every call leaves 32-bit words in both maps. Assumes nothing.
-use Prim.Native.Nat.{ℕ, zero, suc, _+_, _-_, _*_, _^_, _≤_, _<_}
+use Prim.Native.Nat.{ℕ, zero, suc, _+_, _-_, _*_, _^_, _<_}
 use mathlib.Core.List.{List, [], _∷_, _++_}
 use mathlib.Core.Bool.{true, false}
-use mathlib.Core.Path.{_≡_, refl, sym, ap, subst, _∙_}
+use mathlib.Core.Path.{sym, subst}
 use native.Mathlib.Omega.{arith}
 use lib.Dec.{lit<}
-use lib.ListN.{length, getD, take, drop, replicate, length-take, List·getD-eq-default}
+use lib.ListN.{length, take, drop, replicate, length-take, List·getD-eq-default}
 use lib.Seq.{getD-take, getD-drop}
 use Rattle.numbers.proofs.Split.{by-le}
 use Rattle.bits.specs.Bits.{Words, filled}
@@ -18,7 +18,7 @@ use Rattle.state.specs.declared.State.{State}
 use Rattle.state.specs.Table.{blockAt, poolAt}
 use Rattle.state.specs.Change.{inserted}
 use Rattle.rules.specs.Turn.{Turn, withLive, clearSlot}
-use Rattle.rules.specs.Create.{Asked, slotsOf, granted, cleared}
+use Rattle.rules.specs.Create.{Asked, slotsOf, granted}
 use Rattle.rules.specs.Alloc.{markTurn, makeTurn}
 use Rattle.rules.specs.Release.{lessUsed, freeTurn, releaseTurn}
 use Rattle.rules.specs.Reset.{clearBlocks}

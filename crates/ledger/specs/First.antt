@@ -1,5 +1,5 @@
 -- Document 01, Search, of whole blocks: the first block of a pool by age that has enough free units in a row, at their lowest start. Assumes nothing.
-use Prim.Native.Nat.{ℕ, _+_, _≤_, _<_}
+use Prim.Native.Nat.{ℕ, _≤_, _<_}
 use mathlib.Core.List.{List}
 use mathlib.Core.Path.{_≡_}
 use Rattle.runs.specs.Window.{NoFit, Lowest}

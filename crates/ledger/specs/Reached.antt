@@ -6,7 +6,6 @@ use Rattle.bits.specs.Bits.{Words}
 use Rattle.state.specs.declared.State.{State}
 use Rattle.state.specs.declared.Span.{Span}
 use Rattle.state.specs.declared.Answer.the-variants.{Created}
-use Rattle.rules.specs.Turn.{Turn}
 use Rattle.rules.specs.Create.{Asked, createTurn}
 use Rattle.rules.specs.Machine.{Call, step}
 use Rattle.ledger.specs.Ledger.{enter}
