@@ -20,8 +20,8 @@ fn make_span(s: State, used: &mut [u32], stop: &mut [u32], b: Block, n: u32) -> 
     let w = s.w;
     let slot = b.slot;
     let count = s.count;
-    slots::clear_slot(used, slot, w);
-    slots::clear_slot(stop, slot, w);
+    units::clear_slot(used, slot, w);
+    units::clear_slot(stop, slot, w);
     let r = change::insert_block(s, b);
     grant::mark_span(r, used, stop, count, 0, n)
 }

@@ -19,8 +19,8 @@ pub fn mark_allocated_area(
     ensures { λ r. ⌜ painted r (now (used .exit)) (now (stop .exit)) ≡ markAllocated w b from to (now (used .entry)) (now (stop .entry)) ⌝ }
 {
     let slot = b.slot;
-    slots::mark(used, slot, w, from as usize, (to - from) as usize);
-    slots::mark(stop, slot, w, (to - 1) as usize, 1);
+    units::mark(used, slot, w, from as usize, (to - from) as usize);
+    units::mark(stop, slot, w, (to - 1) as usize, 1);
     block::marked_record(b, from, to)
 }
 
@@ -37,8 +37,8 @@ pub fn mark_released_area(
     ensures { λ r. ⌜ painted r (now (used .exit)) (now (stop .exit)) ≡ markReleased w b from to (now (used .entry)) (now (stop .entry)) ⌝ }
 {
     let slot = b.slot;
-    slots::unmark(used, slot, w, from as usize, (to - from) as usize);
-    slots::unmark(stop, slot, w, (to - 1) as usize, 1);
+    units::unmark(used, slot, w, from as usize, (to - from) as usize);
+    units::unmark(stop, slot, w, (to - 1) as usize, 1);
     block::released_record(b, from, to)
 }
 
@@ -55,8 +55,8 @@ pub fn mark_shrunk_area(
     ensures { λ r. ⌜ painted r (now (used .exit)) (now (stop .exit)) ≡ markShrunk w b from to (now (used .entry)) (now (stop .entry)) ⌝ }
 {
     let slot = b.slot;
-    slots::unmark(used, slot, w, from as usize, (to - from) as usize);
-    slots::unmark(stop, slot, w, (to - 1) as usize, 1);
-    slots::mark(stop, slot, w, (from - 1) as usize, 1);
+    units::unmark(used, slot, w, from as usize, (to - from) as usize);
+    units::unmark(stop, slot, w, (to - 1) as usize, 1);
+    units::mark(stop, slot, w, (from - 1) as usize, 1);
     block::shrunk_record(b, from, to)
 }

@@ -18,7 +18,7 @@ fn clear_blocks(s: State, words: &mut [u32])
     let mut i: usize = 0;
     while i < s.count {
         let b = s.blocks[i];
-        slots::clear_slot(words, b.slot, s.w);
+        units::clear_slot(words, b.slot, s.w);
         i += 1;
     }
 }

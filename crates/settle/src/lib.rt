@@ -39,8 +39,8 @@ pub fn settle(s: State, used: &mut [u32], stop: &mut [u32], j: usize) -> State
     let mut pool = s.pool[p];
     if pool.empty != 0 || s.immediate {
         let slot = b.slot;
-        slots::clear_slot(used, slot, s.w);
-        slots::clear_slot(stop, slot, s.w);
+        units::clear_slot(used, slot, s.w);
+        units::clear_slot(stop, slot, s.w);
         return leave::remove_block(s, j);
     }
     pool.empty = 1;

@@ -31,7 +31,7 @@ fn mark(words: &mut [u32; 6], slot: usize, at: usize, n: usize) {
     if slot < 3 {
         if at <= 64 {
             if n <= 64 - at {
-                slots::mark(words, slot, 2, at, n);
+                units::mark(words, slot, 2, at, n);
                 io::write_all(1, b"mark");
                 after(slot, at, n, words);
             }
@@ -43,7 +43,7 @@ fn unmark(words: &mut [u32; 6], slot: usize, at: usize, n: usize) {
     if slot < 3 {
         if at <= 64 {
             if n <= 64 - at {
-                slots::unmark(words, slot, 2, at, n);
+                units::unmark(words, slot, 2, at, n);
                 io::write_all(1, b"unmark");
                 after(slot, at, n, words);
             }

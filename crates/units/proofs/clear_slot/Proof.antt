@@ -1,11 +1,11 @@
 use mathlib.Core.List.{List}
 use mathlib.Core.Path.{_≡_, ap, _∙_}
 use Prim.Native.Nat.{ℕ}
 use Rattle.slots.specs.Slots.{putSlot}
 use Rattle.slots.proofs.Laws.{slot-cleared}
 use borrow.Author.Needs.{needs}
-use Rattle.slots.proofs.clear_slot.Statement.{statement}
-use Rattle.slots.proofs.clear_slot.Tie as tie
+use Rattle.units.proofs.clear_slot.Statement.{statement}
+use Rattle.units.proofs.clear_slot.Tie as tie
 
 mul-unmark : tie.Need-mul-unmark
 mul-unmark c = search needs
