@@ -107,7 +107,7 @@ fn walk(words: &[u32], start: usize, end: usize) {
                     if 3 < at {
                         return;
                     }
-                    let got = runs::step(words, at, word, end, 97);
+                    let got = held::step(words, at, word, end, 97);
                     let runs::Next::Run(s, e, next) = got else {
                         return;
                     };
