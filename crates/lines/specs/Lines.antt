@@ -1,0 +1,62 @@
+-- Document 01, The trace: the lines, byte by byte. Assumes nothing.
+use Prim.Native.Nat.{ℕ, _+_}
+use mathlib.Core.List.{List, [], _∷_, _++_}
+use Rattle.state.specs.declared.State.{State}
+use Rattle.state.specs.declared.Answer.{Answer}
+use Rattle.state.specs.declared.Answer.the-variants.{Created, Granted, Released, Shrunk, Shown, Reset, Refused}
+use Rattle.state.specs.Table.{poolAt}
+use Rattle.rules.specs.Turn.{number}
+use Rattle.lines.specs.Decimal.{decimal}
+
+-- ---- the answer words, as spelled in document 01
+abbrev pub created : List ℕ
+created = 99 ∷ 114 ∷ 101 ∷ 97 ∷ 116 ∷ 101 ∷ 100 ∷ []
+
+abbrev pub span : List ℕ
+span = 115 ∷ 112 ∷ 97 ∷ 110 ∷ []
+
+abbrev pub released : List ℕ
+released = 114 ∷ 101 ∷ 108 ∷ 101 ∷ 97 ∷ 115 ∷ 101 ∷ 100 ∷ []
+
+abbrev pub shrunk : List ℕ
+shrunk = 115 ∷ 104 ∷ 114 ∷ 117 ∷ 110 ∷ 107 ∷ []
+
+abbrev pub reset : List ℕ
+reset = 114 ∷ 101 ∷ 115 ∷ 101 ∷ 116 ∷ []
+
+abbrev pub refused : List ℕ
+refused = 114 ∷ 101 ∷ 102 ∷ 117 ∷ 115 ∷ 101 ∷ 100 ∷ []
+
+abbrev pub bad : List ℕ
+bad = 98 ∷ 97 ∷ 100 ∷ []
+
+abbrev pub ended : List ℕ
+ended = 101 ∷ 110 ∷ 100 ∷ []
+
+-- ---- a line: a word, each number behind one space, and a line feed
+abbrev pub spaced : List ℕ → List ℕ
+spaced [] = []
+spaced (n ∷ ns) = (32 ∷ decimal n) ++ spaced ns
+
+abbrev pub line : List ℕ → List ℕ → List ℕ
+line word ns = word ++ (spaced ns ++ (10 ∷ []))
+
+-- ---- the lines of the calls; a granted query is written as an allocation is
+unfoldable pub answerLine : Answer → List ℕ
+answerLine (Created size g pools) = line created (size ∷ g ∷ pools ∷ [])
+answerLine (Granted x) = line span (x .address ∷ x .size ∷ [])
+answerLine (Shown x) = line span (x .address ∷ x .size ∷ [])
+answerLine (Released x) = line released (x .address ∷ x .size ∷ [])
+answerLine (Shrunk x) = line shrunk (x .address ∷ x .size ∷ [])
+answerLine Reset = line reset []
+answerLine (Refused why) = line refused (number why ∷ [])
+
+-- ---- the last line: live spans, blocks and used units; or a bad record's byte offset
+abbrev pub usedUnits : State → ℕ
+usedUnits s = poolAt s 0 .used + poolAt s 1 .used + poolAt s 2 .used
+
+unfoldable pub endLine : State → List ℕ
+endLine s = line ended (s .live ∷ s .count ∷ usedUnits s ∷ [])
+
+unfoldable pub badLine : ℕ → List ℕ
+badLine offset = line bad (offset ∷ [])
