@@ -1,6 +1,5 @@
 // The walk that keeps hold of the words it reads, as in the Rust. Its functions are thin over `next_range` of runs: one takes it apart, one makes it.
 use runs::Next;
-ghost use lib.ListN.{length};
 ghost use Rattle.runs.specs.Walk.{Stands, Answer};
 
 pub struct BitVectorRangeIterator<'a> {
