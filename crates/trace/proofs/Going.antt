@@ -32,10 +32,10 @@ pub record Going (all : Run) (bs before : List ℕ) (left : ℕ) (s : State) (u 
 abbrev with : Run → ℕ → List ℕ → Run
 with p n l = record { state = p .state; used = p .used; stop = p .stop; taken = n; lines = l; bad = p .bad }
 
-behind-none : (p : Run) → p ≡ behind 0 [] p
+pub behind-none : (p : Run) → p ≡ behind 0 [] p
 behind-none p = let e : p .taken ≡ 0 + p .taken = omega arith in ap (λ (n : ℕ). with p n (p .lines)) e
 
-behind-two : (a n : ℕ) (l m : List ℕ) (p : Run) → behind a l (behind n m p) ≡ behind (a + n) (l ++ m) p
+pub behind-two : (a n : ℕ) (l m : List ℕ) (p : Run) → behind a l (behind n m p) ≡ behind (a + n) (l ++ m) p
 behind-two a n l m p =
     let e : a + (n + p .taken) ≡ a + n + p .taken = omega arith in
     ap (λ (k : ℕ). with p k (l ++ (m ++ p .lines))) e ∙ ap (with p (a + n + p .taken)) (sym (append-assoc l m (p .lines)))
@@ -52,7 +52,7 @@ start k s u t bs before e = record {
   room = omega (arith, e, div-mul-le-self (length before) 80);
 }
 
-first : (left : ℕ) (s : State) (u t ds : List ℕ) → 0 < left → play left s u t ds ≡ afterRecord (play (left - 1)) s u t ds (recordOf ds)
+pub first : (left : ℕ) (s : State) (u t ds : List ℕ) → 0 < left → play left s u t ds ≡ afterRecord (play (left - 1)) s u t ds (recordOf ds)
 unfolding play
 first left s u t ds h = ap (λ (k : ℕ). play k s u t ds) (one-of left h)
 

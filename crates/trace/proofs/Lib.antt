@@ -1,2 +1,4 @@
 pub mod Calls
 pub mod Going
+pub mod Whole
+pub mod Pieces
