@@ -222,3 +222,12 @@ module _ {s : State} {u t : List ℕ} {l : List Span} (r : Reached s u t l) (siz
       go (inl y) = (λ m. absurd (omega (arith, m .count, y .count)), λ c. absurd (not-none y (c .0)))
       go (inr (f, inl y)) = (λ m. (f, not-cannot m), λ c. y)
       go (inr (f, inr y)) = (λ m. absurd (granted-not _ _ (m .answer) (y .0)), λ c. absurd (c .1 (y .1)))
+
+  -- it goes to a standing block exactly if one of the pool has a place
+  pub taken-exactly : Taken s u pool units after ↔ (First s u pool units Nowhere → ⊥)
+  taken-exactly = go alloc-goes
+    where
+      go : Goes s u pool units bytes after → Taken s u pool units after ↔ (First s u pool units Nowhere → ⊥)
+      go (inl y) = (λ m. not-none m, λ c. y)
+      go (inr (f, inl y)) = (λ m. absurd (omega (arith, m .count, y .count)), λ c. absurd (c f))
+      go (inr (f, inr y)) = (λ m. absurd (granted-not _ _ (m .answer) (y .0)), λ c. absurd (c f))

@@ -57,12 +57,7 @@ module _ (g base size : ℕ) where
   -- what the head is does not matter
   view-behind : (x : Span) (l m : List Span) → view g base size m ≡ view g base size l → view g base size (x ∷ m) ≡ view g base size (x ∷ l)
   unfolding view
-  view-behind x l m e = go (within base size (x .address))
-    where
-      go : (c : Bool) → pick c (piece ((x .address - base) / g) (x .size / g) ∷ view g base size m) (view g base size m)
-          ≡ pick c (piece ((x .address - base) / g) (x .size / g) ∷ view g base size l) (view g base size l)
-      go true = ap (λ (k : List Piece). piece ((x .address - base) / g) (x .size / g) ∷ k) e
-      go false = e
+  view-behind x l m e = rw e
 
   pub view-strike-other : (l : List Span) (a : ℕ) → within base size a ≡ false → view g base size (strike a l) ≡ view g base size l
   view-strike-other [] a e = unfold strike in refl
