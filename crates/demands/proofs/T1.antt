@@ -1,6 +1,6 @@
 -- Document 01's T1 as states reached, so there are such states; and its ledger, computed. Assumes nothing.
 use Prim.Native.Nat.{ℕ}
-use mathlib.Core.List.{List, [], _∷_}
+use mathlib.Core.List.{List, [], _∷_, _++_}
 use mathlib.Core.Path.{_≡_, refl}
 use lib.ListN.{replicate}
 use Rattle.bits.specs.Bits.{digit, bit, put, setBit, filled}
@@ -24,7 +24,7 @@ use Rattle.rules.specs.Span.{queryTurn}
 use Rattle.rules.specs.Release.{releaseTurn}
 use Rattle.rules.specs.Shrink.{shrinkTurn}
 use Rattle.rules.specs.Reset.{clearBlocks, kept, resetTurn}
-use Rattle.rules.specs.Machine.{Call, alloc, release, shrink, query, step}
+use Rattle.rules.specs.Machine.{Call, alloc, release, shrink, query, softReset, step}
 use Rattle.ledger.specs.Ledger.{strike, enter}
 use Rattle.ledger.specs.Reached.{Reached, created, called}
 
@@ -43,6 +43,7 @@ asked = record { size = 65536; g = 64; flags = 0; w = 256; arena = 4194304; leng
 pub first : Turn
 first = createTurn asked (replicate 8192 0) (replicate 8192 0)
 
+-- up to the reset
 pub before : List Call
 before = alloc 100 ∷ alloc 64 ∷ release 4194304 ∷ alloc 192 ∷ alloc 1 ∷ query 4194368 ∷ release 8388608 ∷ shrink 4194496 65 ∷ []
 
@@ -51,8 +52,11 @@ begun : Reached (first .state) (first .used) (first .stop) []
 unfolding first asked createTurn isGranularity granularityInForce isPowerBelow isBaseSize baseSizeInForce
 begun = created asked (replicate 8192 0) (replicate 8192 0) (words-zeros 8192) (words-zeros 8192) 65536 64 1 refl
 
-pub reached : Leads (first .state) (first .used) (first .stop) [] before
-reached = leads begun before
+pub calls : List Call
+calls = before ++ (softReset ∷ query 4194496 ∷ [])
+
+pub reached : Leads (first .state) (first .used) (first .stop) [] calls
+reached = leads begun calls
 
 -- ---- the ledger that the answers write
 ledgerOf : State → List ℕ → List ℕ → List Span → List Call → List Span
