@@ -2,3 +2,4 @@ pub mod Calls
 pub mod Going
 pub mod Whole
 pub mod Pieces
+pub mod Sessions
