@@ -4,8 +4,6 @@ use native.Mathlib.Omega.{arith}
 use lib.ListN.{length, length-set}
 use Rattle.feed.proofs.keep.Statement.{statement}
 use Rattle.feed.proofs.keep.Tie as tie
-use Rattle.feed.proofs.keep.Reads as reads
-use Rattle.feed.proofs.keep.Lts as lts
 
 abbrev Inv-loop : tie.InvT-loop
 Inv-loop buffer₀ from to i₀ buffer i = (from ≤ i) × (i ≤ to) × (length buffer ≡ length buffer₀)
@@ -13,39 +11,30 @@ Inv-loop buffer₀ from to i₀ buffer i = (from ≤ i) × (i ≤ to) × (length
 abbrev μ-loop : tie.MeasureT-loop
 μ-loop buffer₀ from to i₀ buffer i = to - i
 
--- src/lib.rt:60:5
 loop-holds : tie.Need-loop-holds Inv-loop μ-loop
 loop-holds c = (omega arith, omega arith, refl)
 
--- src/lib.rt:61:28
 slice-read-buffer : tie.Need-slice-read-buffer Inv-loop μ-loop
 slice-read-buffer c = omega arith
 
--- src/lib.rt:61:16
 sub-buffer : tie.Need-sub-buffer Inv-loop μ-loop
 sub-buffer c = omega arith
 
--- src/lib.rt:61:9
 slice-write-buffer : tie.Need-slice-write-buffer Inv-loop μ-loop
 slice-write-buffer c = omega arith
 
--- src/lib.rt:62:9
 add-i : tie.Need-add-i Inv-loop μ-loop
 add-i c = omega arith
 
--- src/lib.rt:60:5
 loop-less : tie.Need-loop-less Inv-loop μ-loop
 loop-less c = omega arith
 
--- src/lib.rt:60:5
 loop-again : tie.Need-loop-again Inv-loop μ-loop
 loop-again c = (omega arith, omega arith, simp length-set (c .before .before .loop .inv .2))
 
--- src/lib.rt:56:1
 same-length : tie.Need-same-length Inv-loop μ-loop
 same-length c = omega arith
 
--- src/lib.rt:56:1
 returns : tie.Need-returns Inv-loop μ-loop
 returns c = tt
 

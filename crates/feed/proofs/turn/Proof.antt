@@ -5,131 +5,94 @@ use Rattle.lines.proofs.Put.{size}
 use borrow.Author.Needs.{needs}
 use Rattle.feed.proofs.turn.Statement.{statement}
 use Rattle.feed.proofs.turn.Tie as tie
-use Rattle.feed.proofs.turn.Reads as reads
-use Rattle.feed.proofs.turn.Lts as lts
-use Rattle.feed.proofs.fill.Reads as fill-reads
-use Rattle.feed.proofs.keep.Reads as keep-reads
-use Rattle.feed.proofs.last.Reads as last-reads
-use Rattle.std.proofs.num.wrapping_add_u64.Reads as wrapping-add-u64-reads
-use Rattle.trace.proofs.play.Reads as play-reads
 
--- src/lib.rt:109:45
 slice-reshare-prefix-play : tie.Need-slice-reshare-prefix-play
 slice-reshare-prefix-play c = search needs
 
--- src/lib.rt:109:45
 slice-aggregate-play : tie.Need-slice-aggregate-play
 slice-aggregate-play c = sym (length-take-le (c .before .before .before .before .before .before .before .before .args .f .waiting) (c .before .before .before .before .before .before .before .before .args .buffer .now) (c .before .before .before .before .before .before .before .before .pre))
 
--- src/lib.rt:109:9
 play-requires : tie.Need-play-requires
 play-requires c κs = search needs
 
--- src/lib.rt:113:9
 keep-requires : tie.Need-keep-requires
 keep-requires c κs = (omega (arith, c .before .before .before .before .before .before .before .before .before .play .ensures .1 .0, length-take-le (c .before .before .before .before .before .before .before .before .before .before .before .before .before .before .before .before .before .before .before .args .f .waiting) (c .before .before .before .before .before .before .before .before .before .before .before .before .before .before .before .before .before .before .before .args .buffer .now) (c .before .before .before .before .before .before .before .before .before .before .before .before .before .before .before .before .before .before .before .pre)), c .before .before .before .before .before .before .before .before .before .before .before .before .before .before .before .before .before .before .before .pre)
 
--- src/lib.rt:116:21
 wrapping-add-u64-requires : tie.Need-wrapping-add-u64-requires
 wrapping-add-u64-requires c κs = search needs
 
--- src/lib.rt:117:22
 sub-t27 : tie.Need-sub-t27
 sub-t27 c = omega (arith, c .before .before .before .before .before .before .before .before .before .before .before .before .before .play .ensures .1 .0, length-take-le (c .before .before .before .before .before .before .before .before .before .before .before .before .before .before .before .before .before .before .before .before .before .before .before .args .f .waiting) (c .before .before .before .before .before .before .before .before .before .before .before .before .before .before .before .before .before .before .before .before .before .before .before .args .buffer .now) (c .before .before .before .before .before .before .before .before .before .before .before .before .before .before .before .before .before .before .before .before .before .before .before .pre))
 
--- src/lib.rt:114:9
 same-length : tie.Need-same-length
 same-length c = search needs
 
--- src/lib.rt:114:9
 same-length-2 : tie.Need-same-length-2
 same-length-2 c = search needs
 
--- src/lib.rt:114:9
 same-length-3 : tie.Need-same-length-3
 same-length-3 c = search needs
 
--- src/lib.rt:114:9
 same-length-4 : tie.Need-same-length-4
 same-length-4 c = search needs
 
--- src/lib.rt:114:9
 returns : tie.Need-returns
 returns c = search needs
 
--- src/lib.rt:123:9
 last-requires : tie.Need-last-requires
 last-requires c κs = search needs
 
--- src/lib.rt:123:9
 same-length-5 : tie.Need-same-length-5
 same-length-5 c = search needs
 
--- src/lib.rt:123:9
 same-length-6 : tie.Need-same-length-6
 same-length-6 c = search needs
 
--- src/lib.rt:123:9
 same-length-7 : tie.Need-same-length-7
 same-length-7 c = search needs
 
--- src/lib.rt:123:9
 same-length-8 : tie.Need-same-length-8
 same-length-8 c = search needs
 
--- src/lib.rt:123:9
 returns-2 : tie.Need-returns-2
 returns-2 c = (omega (arith, c .before .before .last .ensures .0, c .before .before .before .before .before .before .before .before .before .before .before .before .before .before .before .before .before .before .before .before .before .before .before .pre), omega (arith, c .before .before .last .ensures .1, size (c .before .before .before .before .before .before .before .before .before .before .before .before .before .play .ensures .0 .lines)))
 
--- src/lib.rt:125:9
 fill-requires : tie.Need-fill-requires
 fill-requires c κs = search needs
 
--- src/lib.rt:127:9
 last-requires-2 : tie.Need-last-requires-2
 last-requires-2 c κs = search needs
 
--- src/lib.rt:127:9
 same-length-9 : tie.Need-same-length-9
 same-length-9 c = search needs
 
--- src/lib.rt:127:9
 same-length-10 : tie.Need-same-length-10
 same-length-10 c = search needs
 
--- src/lib.rt:127:9
 same-length-11 : tie.Need-same-length-11
 same-length-11 c = search needs
 
--- src/lib.rt:127:9
 same-length-12 : tie.Need-same-length-12
 same-length-12 c = search needs
 
--- src/lib.rt:127:9
 returns-3 : tie.Need-returns-3
 returns-3 c = (omega (arith, c .before .before .last2 .ensures .0, c .before .before .before .before .before .before .before .before .before .before .before .before .before .before .before .before .before .before .before .before .before .before .before .before .before .before .before .before .pre), omega (arith, c .before .before .last2 .ensures .1, size (c .before .before .before .before .before .before .before .before .before .before .before .before .before .before .before .before .before .before .play .ensures .0 .lines)))
 
--- src/lib.rt:132:18
 add-t34 : tie.Need-add-t34
 add-t34 c = omega (arith, c .before .before .before .fill .ensures, c .before .before .before .before .before .before .before .before .before .before .before .before .before .before .before .before .before .before .before .before .before .before .before .before .pre, c .before .before .before .before .before .before .before .before .before .before .before .before .before .before .before .before .before .before .before .before .before .before .before .before .good .1 .1 .1 .1 .0 .0)
 
--- src/lib.rt:96:1
 same-length-13 : tie.Need-same-length-13
 same-length-13 c = search needs
 
--- src/lib.rt:96:1
 same-length-14 : tie.Need-same-length-14
 same-length-14 c = search needs
 
--- src/lib.rt:96:1
 same-length-15 : tie.Need-same-length-15
 same-length-15 c = search needs
 
--- src/lib.rt:96:1
 same-length-16 : tie.Need-same-length-16
 same-length-16 c = search needs
 
--- src/lib.rt:96:1
 returns-4 : tie.Need-returns-4
 returns-4 c = search needs
 

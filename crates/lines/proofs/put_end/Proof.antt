@@ -6,28 +6,19 @@ use Rattle.lines.specs.Put.{Puts}
 use borrow.Author.Needs.{needs}
 use Rattle.lines.proofs.put_end.Statement.{statement}
 use Rattle.lines.proofs.put_end.Tie as tie
-use Rattle.lines.proofs.put_end.Reads as reads
-use Rattle.lines.proofs.put_end.Lts as lts
-use Rattle.lines.proofs.put_line3.Reads as put-line3-reads
-use Rattle.lines.proofs.used_units.Reads as used-units-reads
 
--- src/lib.rt:161:9
 used-units-requires : tie.Need-used-units-requires
 used-units-requires c κs = search needs
 
--- src/lib.rt:162:24
 slice-aggregate-put-line3 : tie.Need-slice-aggregate-put-line3
 slice-aggregate-put-line3 c = search needs
 
--- src/lib.rt:162:5
 put-line3-requires : tie.Need-put-line3-requires
 put-line3-requires c κs = search needs
 
--- src/lib.rt:157:1
 same-length : tie.Need-same-length
 same-length c = search needs
 
--- src/lib.rt:157:1
 returns : tie.Need-returns
 unfolding endLine
 returns c = let s = c .before .before .before .before .before .used-units in

@@ -7,24 +7,16 @@ use Rattle.lines.proofs.Digits.{most}
 use borrow.Author.Needs.{needs}
 use Rattle.lines.proofs.put_number.Statement.{statement}
 use Rattle.lines.proofs.put_number.Tie as tie
-use Rattle.lines.proofs.put_number.Reads as reads
-use Rattle.lines.proofs.put_number.Lts as lts
-use Rattle.lines.proofs.put_byte.Reads as put-byte-reads
-use Rattle.lines.proofs.put_decimal.Reads as put-decimal-reads
 
--- src/lib.rt:57:9
 put-byte-requires : tie.Need-put-byte-requires
 put-byte-requires c κs = search needs
 
--- src/lib.rt:58:5
 put-decimal-requires : tie.Need-put-decimal-requires
 put-decimal-requires c κs = search needs
 
--- src/lib.rt:53:1
 same-length : tie.Need-same-length
 same-length c = search needs
 
--- src/lib.rt:53:1
 returns : tie.Need-returns
 returns c = let a = c .before .before .before .before .before .before .before .before .before .args in (join (c .before .before .before .before .before .before .put-byte .ensures) (c .before .before .put-decimal .ensures), omega (arith, most (a .n), c .before .before .before .before .before .before .put-byte .ensures .place, c .before .before .put-decimal .ensures .place))
 

@@ -7,11 +7,6 @@ use lib.ListN.{length}
 use lib.Seq.{length-take-le}
 use Rattle.rakeshimmer.proofs.play_all.Statement.{statement}
 use Rattle.rakeshimmer.proofs.play_all.Tie as tie
-use Rattle.rakeshimmer.proofs.play_all.Reads as reads
-use Rattle.rakeshimmer.proofs.play_all.Lts as lts
-use Rattle.feed.proofs.start.Reads as start-reads
-use Rattle.feed.proofs.turn.Reads as turn-reads
-use Rattle.io.proofs.write_all.Reads as write-all-reads
 
 abbrev Inv-loop : tie.InvT-loop
 Inv-loop file used₀ stop₀ buffer₀ out₀ f₀ turns₀ used stop buffer out f turns =
@@ -20,79 +15,60 @@ Inv-loop file used₀ stop₀ buffer₀ out₀ f₀ turns₀ used stop buffer ou
 abbrev μ-loop : tie.MeasureT-loop
 μ-loop file used₀ stop₀ buffer₀ out₀ f₀ turns₀ used stop buffer out f turns = turns
 
--- src/main.rt:4:9
 start-requires : tie.Need-start-requires Inv-loop μ-loop
 start-requires c κs = search needs
 
--- src/main.rt:7:5
 loop-holds : tie.Need-loop-holds Inv-loop μ-loop
 loop-holds c = search needs
 
--- src/main.rt:8:9
 turn-requires : tie.Need-turn-requires Inv-loop μ-loop
 turn-requires c κs = search needs
 
--- src/main.rt:10:44
 slice-reshare-prefix-write-all : tie.Need-slice-reshare-prefix-write-all Inv-loop μ-loop
 slice-reshare-prefix-write-all c = search needs
 
--- src/main.rt:10:44
 slice-aggregate-write-all : tie.Need-slice-aggregate-write-all Inv-loop μ-loop
 slice-aggregate-write-all c = sym (length-take-le (c .before .before .before .before .before .before .before .before .before .turn .result .written) (c .before .before .before .before .before .before .before .before .before .turn .last .1 .1 .1 .1 .1 .0) (search needs))
 
--- src/main.rt:10:9
 write-all-requires : tie.Need-write-all-requires Inv-loop μ-loop
 write-all-requires c κs = search needs
 
--- src/main.rt:11:9
 sub-turns : tie.Need-sub-turns Inv-loop μ-loop
 sub-turns c = search needs
 
--- src/main.rt:7:5
 loop-less : tie.Need-loop-less Inv-loop μ-loop
 loop-less c = search needs
 
--- src/main.rt:7:5
 loop-again : tie.Need-loop-again Inv-loop μ-loop
 loop-again c = search needs
 
--- src/main.rt:3:1
 same-length : tie.Need-same-length Inv-loop μ-loop
 same-length c = search needs
 
--- src/main.rt:3:1
 same-length-2 : tie.Need-same-length-2 Inv-loop μ-loop
 same-length-2 c = search needs
 
--- src/main.rt:3:1
 same-length-3 : tie.Need-same-length-3 Inv-loop μ-loop
 same-length-3 c = search needs
 
--- src/main.rt:3:1
 same-length-4 : tie.Need-same-length-4 Inv-loop μ-loop
 same-length-4 c = search needs
 
--- src/main.rt:3:1
 returns : tie.Need-returns Inv-loop μ-loop
 returns c = search needs
 
--- src/main.rt:3:1
 same-length-5 : tie.Need-same-length-5 Inv-loop μ-loop
 same-length-5 c = search needs
 
--- src/main.rt:3:1
 same-length-6 : tie.Need-same-length-6 Inv-loop μ-loop
 same-length-6 c = search needs
 
--- src/main.rt:3:1
 same-length-7 : tie.Need-same-length-7 Inv-loop μ-loop
 same-length-7 c = search needs
 
--- src/main.rt:3:1
 same-length-8 : tie.Need-same-length-8 Inv-loop μ-loop
 same-length-8 c = search needs
 
--- src/main.rt:3:1
 returns-2 : tie.Need-returns-2 Inv-loop μ-loop
 returns-2 c = search needs
 

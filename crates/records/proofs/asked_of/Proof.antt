@@ -1,36 +1,25 @@
 use borrow.Author.Needs.{needs}
 use Rattle.records.proofs.asked_of.Statement.{statement}
 use Rattle.records.proofs.asked_of.Tie as tie
-use Rattle.records.proofs.asked_of.Reads as reads
-use Rattle.records.proofs.asked_of.Lts as lts
-use Rattle.records.proofs.u32_at.Reads as u32-at-reads
-use Rattle.records.proofs.u64_at.Reads as u64-at-reads
 
--- src/lib.rt:91:9
 u32-at-requires : tie.Need-u32-at-requires
 u32-at-requires c κs = search needs
 
--- src/lib.rt:92:9
 u32-at-requires-2 : tie.Need-u32-at-requires-2
 u32-at-requires-2 c κs = search needs
 
--- src/lib.rt:93:9
 u32-at-requires-3 : tie.Need-u32-at-requires-3
 u32-at-requires-3 c κs = search needs
 
--- src/lib.rt:94:9
 u32-at-requires-4 : tie.Need-u32-at-requires-4
 u32-at-requires-4 c κs = search needs
 
--- src/lib.rt:95:9
 u64-at-requires : tie.Need-u64-at-requires
 u64-at-requires c κs = search needs
 
--- src/lib.rt:96:9
 u64-at-requires-2 : tie.Need-u64-at-requires-2
 u64-at-requires-2 c κs = search needs
 
--- src/lib.rt:87:1
 returns : tie.Need-returns
 returns c = rw (c .before .before .before .before .before .u32-at .ensures, c .before .before .before .before .u32-at2 .ensures, c .before .before .before .u32-at3 .ensures, c .before .before .u32-at4 .ensures, c .before .u64-at .ensures, c .u64-at2 .ensures)
 

@@ -9,11 +9,6 @@ use Rattle.records.proofs.Ways.{no-head, by-payload, other-length, cut-
 use borrow.Author.Needs.{needs}
 use Rattle.records.proofs.read.Statement.{statement}
 use Rattle.records.proofs.read.Tie as tie
-use Rattle.records.proofs.read.Reads as reads
-use Rattle.records.proofs.read.Lts as lts
-use Rattle.records.proofs.call_of.Reads as call-of-reads
-use Rattle.records.proofs.payload_of.Reads as payload-of-reads
-use Rattle.records.proofs.u16_at.Reads as u16-at-reads
 
 -- what was read goes by the payload of its kind
 known : (c : tie.After-payload-of) (p : Payload) → c .payload-of .result ≡ p → let a = c .before .before .before .before .before .args in
@@ -22,60 +17,47 @@ known c p e =
     let a = c .before .before .before .before .before .args in
     by-payload (now (a .bytes)) (c .before .before .u16-at .result) (c .before .u16-at2 .result) p (c .before .before .before .if1 .left) (c .before .before .u16-at .ensures .0) (c .before .u16-at2 .ensures .0) (sym e ∙ c .payload-of .ensures)
 
--- src/lib.rt:128:9
 returns : tie.Need-returns
 returns c = no-head (now (c .before .before .args .bytes)) (c .if1 .taken)
 
--- src/lib.rt:130:9
 u16-at-requires : tie.Need-u16-at-requires
 u16-at-requires c κs = search needs
 
--- src/lib.rt:131:9
 u16-at-requires-2 : tie.Need-u16-at-requires-2
 u16-at-requires-2 c κs = search needs
 
--- src/lib.rt:132:9
 payload-of-requires : tie.Need-payload-of-requires
 payload-of-requires c κs = search needs
 
--- src/lib.rt:133:24
 enum-known-payload : tie.Need-enum-known-payload
 enum-known-payload c = search needs
 
--- src/lib.rt:134:9
 enum-told : tie.Need-enum-told
 enum-told c = search needs
 
--- src/lib.rt:134:9
 returns-2 : tie.Need-returns-2
 returns-2 c = known (c .before .before) Unknown (c .enum-told .given .1)
 
--- src/lib.rt:136:8
 cast-if2 : tie.Need-cast-if2
 cast-if2 c = search needs
 
--- src/lib.rt:137:9
 returns-3 : tie.Need-returns-3
 returns-3 c = let k = c .before .before .before .before in
     let n = c .before .before .payload .given .0 .0 in
     other-length (now (k .before .before .before .before .before .args .bytes)) (k .before .before .u16-at .result) (k .before .u16-at2 .result) n (c .if2 .taken) ∙ known k (Bytes n) (c .before .before .payload .given .1)
 
--- src/lib.rt:139:17
 add-whole : tie.Need-add-whole
 add-whole c = search needs
 
--- src/lib.rt:141:9
 returns-4 : tie.Need-returns-4
 returns-4 c = let k = c .before .before .before .before .before in
     let n = c .before .before .before .payload .given .0 .0 in
     cut-payload (now (k .before .before .before .before .before .args .bytes)) (k .before .before .u16-at .result) (k .before .u16-at2 .result) n (c .before .if2 .left) (c .if3 .taken) ∙ known k (Bytes n) (c .before .before .before .payload .given .1)
 
--- src/lib.rt:143:26
 call-of-requires : tie.Need-call-of-requires
 call-of-requires c κs = let k = c .before .before .before .before .before in
     subst (λ (p : Payload). Holds p (length (now (k .before .before .before .before .before .args .bytes)))) (sym (c .before .before .before .payload .given .1) ∙ k .payload-of .ensures) (c .if3 .left)
 
--- src/lib.rt:124:1
 returns-5 : tie.Need-returns-5
 returns-5 c = let k = c .before .before .before .before .before .before in
     let n = c .before .before .before .before .payload .given .0 .0 in

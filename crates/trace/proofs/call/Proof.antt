@@ -9,156 +9,112 @@ use Rattle.trace.proofs.Calls.{query-still}
 use borrow.Author.Needs.{needs}
 use Rattle.trace.proofs.call.Statement.{statement}
 use Rattle.trace.proofs.call.Tie as tie
-use Rattle.trace.proofs.call.Reads as reads
-use Rattle.trace.proofs.call.Lts as lts
-use Rattle.alloc.proofs.alloc.Reads as alloc-reads
-use Rattle.query.proofs.query.Reads as query-reads
-use Rattle.release.proofs.release.Reads as release-reads
-use Rattle.reset.proofs.hard_reset.Reads as hard-reset-reads
-use Rattle.reset.proofs.soft_reset.Reads as soft-reset-reads
-use Rattle.shrink.proofs.shrink.Reads as shrink-reads
-use Rattle.trace.proofs.call_create.Reads as call-create-reads
 
--- src/lib.rt:36:22
 enum-known-c : tie.Need-enum-known-c
 enum-known-c c = search needs
 
--- src/lib.rt:36:28
 call-create-requires : tie.Need-call-create-requires
 call-create-requires c κs = search needs
 
--- src/lib.rt:37:21
 enum-known-c-2 : tie.Need-enum-known-c-2
 enum-known-c-2 c = search needs
 
--- src/lib.rt:37:30
 alloc-requires : tie.Need-alloc-requires
 alloc-requires c κs = search needs
 
--- src/lib.rt:38:23
 enum-known-c-3 : tie.Need-enum-known-c-3
 enum-known-c-3 c = search needs
 
--- src/lib.rt:38:35
 release-requires : tie.Need-release-requires
 release-requires c κs = search needs
 
--- src/lib.rt:39:22
 enum-known-c-4 : tie.Need-enum-known-c-4
 enum-known-c-4 c = search needs
 
--- src/lib.rt:39:40
 shrink-requires : tie.Need-shrink-requires
 shrink-requires c κs = search needs
 
--- src/lib.rt:40:21
 enum-known-c-5 : tie.Need-enum-known-c-5
 enum-known-c-5 c = search needs
 
--- src/lib.rt:41:17
 query-requires : tie.Need-query-requires
 query-requires c κs = search needs
 
--- src/lib.rt:44:49
 enum-told : tie.Need-enum-told
 enum-told c = search needs
 
--- src/lib.rt:44:28
 soft-reset-requires : tie.Need-soft-reset-requires
 soft-reset-requires c κs = search needs
 
--- src/lib.rt:45:49
 enum-told-2 : tie.Need-enum-told-2
 enum-told-2 c = search needs
 
--- src/lib.rt:45:28
 hard-reset-requires : tie.Need-hard-reset-requires
 hard-reset-requires c κs = search needs
 
--- src/lib.rt:32:1
 same-length : tie.Need-same-length
 same-length c = search needs
 
--- src/lib.rt:32:1
 same-length-2 : tie.Need-same-length-2
 same-length-2 c = search needs
 
--- src/lib.rt:32:1
 returns : tie.Need-returns
 returns c = c .before .before .before .before .call-create .ensures ∙ sym (ap (λ (x : Call). step (c .before .before .before .before .before .before .before .before .before .before .before .before .args .s) (now (c .before .before .before .before .before .before .before .before .before .before .before .before .args .used)) (now (c .before .before .before .before .before .before .before .before .before .before .before .before .args .stop)) (callBy x)) (c .before .before .before .before .before .before .before .before .c .given .1))
 
--- src/lib.rt:32:1
 same-length-3 : tie.Need-same-length-3
 same-length-3 c = search needs
 
--- src/lib.rt:32:1
 same-length-4 : tie.Need-same-length-4
 same-length-4 c = search needs
 
--- src/lib.rt:32:1
 returns-2 : tie.Need-returns-2
 returns-2 c = c .before .before .before .before .alloc .ensures ∙ sym (ap (λ (x : Call). step (c .before .before .before .before .before .before .before .before .before .before .before .before .args .s) (now (c .before .before .before .before .before .before .before .before .before .before .before .before .args .used)) (now (c .before .before .before .before .before .before .before .before .before .before .before .before .args .stop)) (callBy x)) (c .before .before .before .before .before .before .before .before .c2 .given .1))
 
--- src/lib.rt:32:1
 same-length-5 : tie.Need-same-length-5
 same-length-5 c = search needs
 
--- src/lib.rt:32:1
 same-length-6 : tie.Need-same-length-6
 same-length-6 c = search needs
 
--- src/lib.rt:32:1
 returns-3 : tie.Need-returns-3
 returns-3 c = c .before .before .before .before .release .ensures ∙ sym (ap (λ (x : Call). step (c .before .before .before .before .before .before .before .before .before .before .before .before .args .s) (now (c .before .before .before .before .before .before .before .before .before .before .before .before .args .used)) (now (c .before .before .before .before .before .before .before .before .before .before .before .before .args .stop)) (callBy x)) (c .before .before .before .before .before .before .before .before .c3 .given .1))
 
--- src/lib.rt:32:1
 same-length-7 : tie.Need-same-length-7
 same-length-7 c = search needs
 
--- src/lib.rt:32:1
 same-length-8 : tie.Need-same-length-8
 same-length-8 c = search needs
 
--- src/lib.rt:32:1
 returns-4 : tie.Need-returns-4
 returns-4 c = c .before .before .before .before .shrink .ensures ∙ sym (ap (λ (x : Call). step (c .before .before .before .before .before .before .before .before .before .before .before .before .args .s) (now (c .before .before .before .before .before .before .before .before .before .before .before .before .args .used)) (now (c .before .before .before .before .before .before .before .before .before .before .before .before .args .stop)) (callBy x)) (c .before .before .before .before .before .before .before .before .c4 .given .1))
 
--- src/lib.rt:32:1
 same-length-9 : tie.Need-same-length-9
 same-length-9 c = search needs
 
--- src/lib.rt:32:1
 same-length-10 : tie.Need-same-length-10
 same-length-10 c = search needs
 
--- src/lib.rt:32:1
 returns-5 : tie.Need-returns-5
 returns-5 c = let a = c .before .before .before .before .before .before .before .before .args in
     ap (λ (x : Answer). turn x (a .s) (now (a .used)) (now (a .stop))) (c .query .ensures)
     ∙ query-still (a .s) (now (a .used)) (now (a .stop)) (c .before .before .before .before .c5 .given .0 .0)
     ∙ sym (ap (λ (x : Call). step (c .before .before .before .before .before .before .before .before .args .s) (now (c .before .before .before .before .before .before .before .before .args .used)) (now (c .before .before .before .before .before .before .before .before .args .stop)) (callBy x)) (c .before .before .before .before .c5 .given .1))
 
--- src/lib.rt:32:1
 same-length-11 : tie.Need-same-length-11
 same-length-11 c = search needs
 
--- src/lib.rt:32:1
 same-length-12 : tie.Need-same-length-12
 same-length-12 c = search needs
 
--- src/lib.rt:32:1
 returns-6 : tie.Need-returns-6
 returns-6 c = c .before .before .before .before .soft-reset .ensures ∙ sym (ap (λ (x : Call). step (c .before .before .before .before .before .before .before .before .before .before .before .args .s) (now (c .before .before .before .before .before .before .before .before .before .before .before .args .used)) (now (c .before .before .before .before .before .before .before .before .before .before .before .args .stop)) (callBy x)) (c .before .before .before .before .before .before .before .enum-told .given .1))
 
--- src/lib.rt:32:1
 same-length-13 : tie.Need-same-length-13
 same-length-13 c = search needs
 
--- src/lib.rt:32:1
 same-length-14 : tie.Need-same-length-14
 same-length-14 c = search needs
 
--- src/lib.rt:32:1
 returns-7 : tie.Need-returns-7
 returns-7 c = c .before .before .before .before .hard-reset .ensures ∙ sym (ap (λ (x : Call). step (c .before .before .before .before .before .before .before .before .before .before .before .args .s) (now (c .before .before .before .before .before .before .before .before .before .before .before .args .used)) (now (c .before .before .before .before .before .before .before .before .before .before .before .args .stop)) (callBy x)) (c .before .before .before .before .before .before .before .enum-told2 .given .1))
 

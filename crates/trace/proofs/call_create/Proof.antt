@@ -8,39 +8,28 @@ use Rattle.trace.proofs.Calls.{refused-keeps, granted-goes}
 use borrow.Author.Needs.{needs}
 use Rattle.trace.proofs.call_create.Statement.{statement}
 use Rattle.trace.proofs.call_create.Tie as tie
-use Rattle.trace.proofs.call_create.Reads as reads
-use Rattle.trace.proofs.call_create.Lts as lts
-use Rattle.create.proofs.create.Reads as create-reads
 
--- src/lib.rt:20:9
 create-requires : tie.Need-create-requires
 create-requires c κs = search needs
 
--- src/lib.rt:23:9
 enum-told : tie.Need-enum-told
 enum-told c = search needs
 
--- src/lib.rt:23:9
 same-length : tie.Need-same-length
 same-length c = search needs
 
--- src/lib.rt:23:9
 same-length-2 : tie.Need-same-length-2
 same-length-2 c = search needs
 
--- src/lib.rt:23:9
 returns : tie.Need-returns
 returns c = let a = c .before .before .before .before .before .before .before .before .before .before .before .args in refused-keeps (a .s) (turn (c .before .before .before .before .before .before .create .result .answer) (c .before .before .before .before .before .before .create .result .state) (c .before .before .before .before .before .before .create .last .1 .1 .1 .1 .1 .1 .0) (c .before .before .before .before .before .before .create .last .1 .1 .1 .1 .1 .1 .1 .0)) _ (c .enum-told .given .1) ∙ ap (λ (x : Turn). orBefore (a .s) x (x .answer)) (c .before .before .before .before .before .before .create .ensures)
 
--- src/lib.rt:17:1
 same-length-3 : tie.Need-same-length-3
 same-length-3 c = search needs
 
--- src/lib.rt:17:1
 same-length-4 : tie.Need-same-length-4
 same-length-4 c = search needs
 
--- src/lib.rt:17:1
 returns-2 : tie.Need-returns-2
 returns-2 c = let a = c .before .before .before .before .before .before .before .before .before .before .args in granted-goes (a .s) (turn (c .before .before .before .before .before .create .result .answer) (c .before .before .before .before .before .create .result .state) (c .before .before .before .before .before .create .last .1 .1 .1 .1 .1 .1 .0) (c .before .before .before .before .before .create .last .1 .1 .1 .1 .1 .1 .1 .0)) (c .before .before .before .before .before .create .result .answer) (c .match .keys2) ∙ ap (λ (x : Turn). orBefore (a .s) x (x .answer)) (c .before .before .before .before .before .create .ensures)
 

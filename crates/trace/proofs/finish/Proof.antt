@@ -10,36 +10,25 @@ use Rattle.lines.proofs.Lines.{end-most, bad-most}
 use borrow.Author.Needs.{needs}
 use Rattle.trace.proofs.finish.Statement.{statement}
 use Rattle.trace.proofs.finish.Tie as tie
-use Rattle.trace.proofs.finish.Reads as reads
-use Rattle.trace.proofs.finish.Lts as lts
-use Rattle.lines.proofs.put_bad.Reads as put-bad-reads
-use Rattle.lines.proofs.put_end.Reads as put-end-reads
 
--- src/lib.rt:108:9
 returns : tie.Need-returns
 returns c = (rw (lt-ltb (length (now (c .before .before .args .out))) 80 (c .if1 .taken)) (record { place = refl; whole = refl }), omega arith)
 
--- src/lib.rt:111:9
 put-end-requires : tie.Need-put-end-requires
 put-end-requires c κs = search needs
 
--- src/lib.rt:111:9
 same-length : tie.Need-same-length
 same-length c = search needs
 
--- src/lib.rt:111:9
 returns-2 : tie.Need-returns-2
 returns-2 c = let a = c .before .before .before .before .before .before .before .args in (rw (le-ltb (length (now (a .out))) 80 (c .before .before .before .before .before .if1 .left), eq-eqb (a .left) 0 (c .before .before .before .before .if2 .taken)) (c .before .before .put-end .ensures), omega (arith, end-most (a .s), c .before .before .put-end .ensures .place))
 
--- src/lib.rt:113:5
 put-bad-requires : tie.Need-put-bad-requires
 put-bad-requires c κs = search needs
 
--- src/lib.rt:104:1
 same-length-2 : tie.Need-same-length-2
 same-length-2 c = search needs
 
--- src/lib.rt:104:1
 returns-3 : tie.Need-returns-3
 returns-3 c = let a = c .before .before .before .before .before .before .before .args in (rw (le-ltb (length (now (a .out))) 80 (c .before .before .before .before .before .if1 .left), ne-eqb (a .left) 0 (c .before .before .before .before .if2 .left)) (c .before .before .put-bad .ensures), omega (arith, bad-most (a .offset), c .before .before .put-bad .ensures .place))
 

@@ -13,11 +13,6 @@ use Rattle.trace.specs.Play.{play}
 use Rattle.trace.proofs.Going.{Going, start, no-room, cut, wrong, one-more}
 use Rattle.trace.proofs.play.Statement.{statement}
 use Rattle.trace.proofs.play.Tie as tie
-use Rattle.trace.proofs.play.Reads as reads
-use Rattle.trace.proofs.play.Lts as lts
-use Rattle.lines.proofs.put_answer.Reads as put-answer-reads
-use Rattle.records.proofs.read.Reads as read-reads
-use Rattle.trace.proofs.call.Reads as call-reads
 
 abbrev Inv-loop : tie.InvT-loop
 Inv-loop used₀ stop₀ bytes out₀ state₀ taken₀ written₀ left₀ used stop out state taken written left =
@@ -34,39 +29,30 @@ front c =
     let l = c .before .before .before .loop in
     c .read .ensures ∙ ap recordOf (take-all (length (a .bytes .now) - l .taken) (drop (l .taken) (a .bytes .now)) (omega (arith, length-drop (l .taken) (a .bytes .now), l .inv .0 .within)))
 
--- src/lib.rt:66:5
 loop-holds : tie.Need-loop-holds Inv-loop μ-loop
 loop-holds c = (start _ _ _ _ _ _ refl, refl, refl)
 
--- src/lib.rt:67:36
 sub-read : tie.Need-sub-read Inv-loop μ-loop
 sub-read c = omega (arith, c .before .loop .inv .0 .within)
 
--- src/lib.rt:67:36
 part-read-start : tie.Need-part-read-start Inv-loop μ-loop
 part-read-start c = omega (arith, c .before .loop .inv .0 .within)
 
--- src/lib.rt:67:36
 part-read-end : tie.Need-part-read-end Inv-loop μ-loop
 part-read-end c = omega (arith, c .before .loop .inv .0 .within)
 
--- src/lib.rt:67:13
 read-requires : tie.Need-read-requires Inv-loop μ-loop
 read-requires c κs = search needs
 
--- src/lib.rt:69:27
 enum-known-found : tie.Need-enum-known-found Inv-loop μ-loop
 enum-known-found c = search needs
 
--- src/lib.rt:70:21
 call-requires : tie.Need-call-requires Inv-loop μ-loop
 call-requires c κs = search needs
 
--- src/lib.rt:73:17
 put-answer-requires : tie.Need-put-answer-requires Inv-loop μ-loop
 put-answer-requires c κs = let l = c .before .before .before .before .before .before .before .before .before .before .before .before .before .before .before .loop in omega (arith, l .inv .0 .room, size (l .inv .0 .put))
 
--- src/lib.rt:74:17
 add-taken : tie.Need-add-taken Inv-loop μ-loop
 add-taken c =
     let a = c .before .before .before .before .before .before .before .before .before .before .before .before .before .before .before .before .before .before .before .before .before .before .before .args in
@@ -74,55 +60,42 @@ add-taken c =
     let f = c .before .before .before .before .before .before .before .before .before .before .before .before .before .found .given in
     omega (arith, whole-size (f .0 .0) (f .0 .1 .0) (drop (l .taken) (a .bytes .now)) (sym (front (c .before .before .before .before .before .before .before .before .before .before .before .before .before .before .before)) ∙ f .1) .1, length-drop (l .taken) (a .bytes .now), l .inv .0 .within, c .before .before .before .before .before .before .before .before .before .before .before .before .before .before .before .before .before .before .before .before .before .before .before .good .1 .1 .1 .0 .0)
 
--- src/lib.rt:77:17
 enum-told : tie.Need-enum-told Inv-loop μ-loop
 enum-told c = search needs
 
--- src/lib.rt:77:17
 same-length : tie.Need-same-length Inv-loop μ-loop
 same-length c = c .before .before .before .before .before .loop .inv .1
 
--- src/lib.rt:77:17
 same-length-2 : tie.Need-same-length-2 Inv-loop μ-loop
 same-length-2 c = c .before .before .before .before .before .loop .inv .2
 
--- src/lib.rt:77:17
 same-length-3 : tie.Need-same-length-3 Inv-loop μ-loop
 same-length-3 c = size (c .before .before .before .before .before .loop .inv .0 .put)
 
--- src/lib.rt:77:17
 returns : tie.Need-returns Inv-loop μ-loop
 returns c = let g = c .before .before .before .before .before .loop .inv .0 in (cut (c .before .before .before .before .loop-test .taken) (sym (front (c .before .before)) ∙ c .enum-told .given .1) (c .before .before .before .before .before .loop .inv .0), (g .within, omega (arith, g .room)))
 
--- src/lib.rt:85:17
 enum-told-2 : tie.Need-enum-told-2 Inv-loop μ-loop
 enum-told-2 c = search needs
 
--- src/lib.rt:85:17
 same-length-4 : tie.Need-same-length-4 Inv-loop μ-loop
 same-length-4 c = c .before .before .before .before .before .loop .inv .1
 
--- src/lib.rt:85:17
 same-length-5 : tie.Need-same-length-5 Inv-loop μ-loop
 same-length-5 c = c .before .before .before .before .before .loop .inv .2
 
--- src/lib.rt:85:17
 same-length-6 : tie.Need-same-length-6 Inv-loop μ-loop
 same-length-6 c = size (c .before .before .before .before .before .loop .inv .0 .put)
 
--- src/lib.rt:85:17
 returns-2 : tie.Need-returns-2 Inv-loop μ-loop
 returns-2 c = let g = c .before .before .before .before .before .loop .inv .0 in (wrong (c .before .before .before .before .loop-test .taken) (sym (front (c .before .before)) ∙ c .enum-told2 .given .1) (c .before .before .before .before .before .loop .inv .0), (g .within, omega (arith, g .room)))
 
--- src/lib.rt:93:9
 sub-left : tie.Need-sub-left Inv-loop μ-loop
 sub-left c = omega arith
 
--- src/lib.rt:66:5
 loop-less : tie.Need-loop-less Inv-loop μ-loop
 loop-less c = omega arith
 
--- src/lib.rt:66:5
 loop-again : tie.Need-loop-again Inv-loop μ-loop
 loop-again c =
     let l = c .before .before .before .before .before .before .before .before .before .before .before .before .before .before .before .before .before .before .loop in
@@ -133,19 +106,15 @@ loop-again c =
       search needs,
     )
 
--- src/lib.rt:58:1
 same-length-7 : tie.Need-same-length-7 Inv-loop μ-loop
 same-length-7 c = c .before .loop .inv .1
 
--- src/lib.rt:58:1
 same-length-8 : tie.Need-same-length-8 Inv-loop μ-loop
 same-length-8 c = c .before .loop .inv .2
 
--- src/lib.rt:58:1
 same-length-9 : tie.Need-same-length-9 Inv-loop μ-loop
 same-length-9 c = size (c .before .loop .inv .0 .put)
 
--- src/lib.rt:58:1
 returns-3 : tie.Need-returns-3 Inv-loop μ-loop
 returns-3 c = let g = c .before .loop .inv .0 in (no-room (omega arith) (c .before .loop .inv .0), (g .within, omega (arith, g .room)))
 
