@@ -5,6 +5,7 @@
 //! `driver program DIRECTORY PROGRAM [ARGUMENT]`: every trace on the oracle and on another program, which reads it
 //! from its standard input; with the argument `--blocks` it has to write the state after each call too.
 //! `driver samples DIRECTORY`: writes the samples.
+//! `driver long FILE CALLS LIVE`: writes one long trace, with about so many live spans.
 
 mod compare;
 mod generate;
@@ -162,6 +163,19 @@ fn answered(program: &str, arguments: &[&str], trace: &Path) -> String {
     }
 }
 
+/// Writes one long trace.
+fn write_long(file: &Path, calls: &str, live: &str) -> bool {
+    let (Ok(calls), Ok(live)) = (calls.parse(), live.parse()) else {
+        eprintln!("driver: {calls} and {live} are not two numbers");
+        return false;
+    };
+    let written = std::fs::write(file, generate::long(calls, live));
+    if let Err(error) = &written {
+        eprintln!("driver: cannot write {}: {error}", file.display());
+    }
+    written.is_ok()
+}
+
 /// The first line that differs, its line feed included.
 fn first_difference(wanted: &str, got: &str) -> String {
     let (mut left, mut right) = (wanted.split_inclusive('\n'), got.split_inclusive('\n'));
@@ -214,9 +228,10 @@ fn main() {
             compare_all_program(Path::new(directory), program, arguments)
         }
         ["samples", directory] => samples::write_all(Path::new(directory)),
+        ["long", file, calls, live] => write_long(Path::new(file), calls, live),
         _ => {
             eprintln!(
-                "driver: usage: driver compare DIRECTORY | published | program DIRECTORY PROGRAM | samples DIRECTORY"
+                "driver: usage: driver compare DIRECTORY | published | program DIRECTORY PROGRAM | samples DIRECTORY | long FILE CALLS LIVE"
             );
             exit(2);
         }

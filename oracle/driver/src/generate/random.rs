@@ -1,4 +1,4 @@
-//! Random traces, with every option, and fragmenting ones.
+//! Random traces, with every option, fragmenting ones, and long ones.
 
 use super::numbers::*;
 use crate::random::Random;
@@ -172,6 +172,35 @@ pub fn fragments(number: u64) -> Vec<u8> {
             let address = random.pick(&writer.live).0;
             writer.call(Call::Release(address));
         }
+    }
+    writer.bytes()
+}
+
+/// Allocations, releases, shrinks and queries of live spans, of which there are about `live` once that many were made.
+pub fn long(calls: usize, live: usize) -> Vec<u8> {
+    let mut random = Random::new(0x6c6f_6e67 + live as u64);
+    let mut writer = Writer::default();
+    let create = Create {
+        block_size: 65_536,
+        granularity: 64,
+        flags: 0,
+        slot_words: 512,
+        arena_base: 64 * PLACE,
+        arena_length: 1 << 30,
+    };
+    writer.call(Call::Create(create));
+    for _ in 1..calls {
+        let alloc = if writer.live.len() < live { 50 } else { 30 };
+        let call = match random.weighted(&[alloc, 40, 10, 10]) {
+            choice if choice == 0 || writer.live.is_empty() => Call::Alloc(random.range(1, 40 * 64)),
+            1 => Call::Release(random.pick(&writer.live).0),
+            2 => {
+                let (address, size) = random.pick(&writer.live);
+                Call::Shrink(address, random.range(1, size))
+            }
+            _ => Call::Query(random.pick(&writer.live).0),
+        };
+        writer.call(call);
     }
     writer.bytes()
 }
