@@ -2,8 +2,8 @@
 //!
 //! `driver compare DIRECTORY`: every trace on the original and on the plain program; a differing one is saved.
 //! `driver published`: every trace on the oracle and on the original's text as published.
-//! `driver program DIRECTORY PROGRAM [ARGUMENT]`: every trace on the oracle and on another program, which reads it
-//! from its standard input; with the argument `--blocks` it has to write the state after each call too.
+//! `driver program DIRECTORY PROGRAM [ARGUMENT]`: every trace on the oracle, on the plain program and on another program, which
+//! reads it from its standard input; with the argument `--blocks` it has to write the state after each call too, as the oracle does.
 //! `driver samples DIRECTORY`: writes the samples.
 //! `driver long FILE CALLS LIVE`: writes one long trace, with about so many live spans.
 
@@ -189,12 +189,14 @@ fn first_difference(wanted: &str, got: &str) -> String {
     }
 }
 
-/// Compares another program with the oracle, one process a trace. The smallest differing trace is saved.
+/// Compares another program with the oracle, one process a trace, and with the plain program, which covers what lies outside the
+/// oracle's domain. The smallest differing trace is saved.
 fn compare_all_program(directory: &Path, program: &str, arguments: &[&str]) -> bool {
     let recipes = recipes();
     let mut progress = Progress::new(recipes.len());
     let path = directory.join("program.trace");
-    let (mut calls, mut differing) = (0, Vec::new());
+    let blocks = arguments.contains(&"--blocks");
+    let (mut calls, mut from_original, mut from_plain, mut differing) = (0, 0, 0, Vec::new());
     for (index, recipe) in recipes.iter().enumerate() {
         let bytes = recipe.bytes();
         calls += compare::count_calls(&bytes);
@@ -202,10 +204,19 @@ fn compare_all_program(directory: &Path, program: &str, arguments: &[&str]) -> b
             eprintln!("driver: cannot write {}: {error}", path.display());
             return false;
         }
-        let (wanted, got) = (expected(&bytes, arguments.contains(&"--blocks")), answered(program, arguments, &path));
-        if wanted != got {
-            tell(differing.len(), &format!("{} differs, {}", recipe.name, first_difference(&wanted, &got)));
-            differing.push(bytes);
+        let got = answered(program, arguments, &path);
+        let wanted = expected(&bytes, blocks);
+        let mut differs = |name: &str, wanted: &str, count: &mut usize| {
+            if wanted != got {
+                let difference = first_difference(wanted, &got);
+                tell(differing.len(), &format!("{} differs from {name}, {difference}", recipe.name));
+                differing.push(bytes.clone());
+                *count += 1;
+            }
+        };
+        differs("the original", &wanted, &mut from_original);
+        if !blocks {
+            differs("the plain program", &plain::trace::run(&bytes, |_| {}), &mut from_plain);
         }
         progress.show(index + 1, calls);
     }
@@ -214,7 +225,10 @@ fn compare_all_program(directory: &Path, program: &str, arguments: &[&str]) -> b
     {
         println!("The smallest that differs is saved as oracle/target/differs.trace");
     }
-    println!("{} traces, {calls} calls, {} differ", recipes.len(), differing.len());
+    if !blocks {
+        println!("against the plain program: {} traces, {calls} calls, {from_plain} differ", recipes.len());
+    }
+    println!("against the original: {} traces, {calls} calls, {from_original} differ", recipes.len());
     differing.is_empty()
 }
 
