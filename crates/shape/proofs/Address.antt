@@ -2,7 +2,7 @@
 -- so arranged has neighbours in order. Assumes nothing.
 use Prim.Native.Nat.{ℕ, _+_, _-_, _≤_, _<_}
 use mathlib.Core.Path.{_≡_, refl, sym, ap, _∙_}
-use mathlib.Core.Bool.{Bool, true, false, not}
+use mathlib.Core.Bool.{Bool, true, false, not, and-true}
 use mathlib.Core.List.{List, [], _∷_}
 use mathlib.Core.Logic.{_⊎_, inl, inr, ⊎-elim}
 use native.Mathlib.Omega.{arith}
@@ -16,7 +16,7 @@ use Rattle.state.specs.Shape.{meet, onceOk, risingOk, orderOk, zeroOk}
 use Rattle.state.proofs.Tests.{and-left, and-right, and-both, and-fails-left, and-fails-right, every-at, all-at, all-of, pairs-at, pairs-of}
 use Rattle.shape.specs.Parts.{bytesApart, layoutOk}
 use Rattle.shape.specs.Facts.{Laid}
-use Rattle.shape.proofs.Bools.{refute, not-of-false, by-bool}
+use Rattle.shape.proofs.Bools.{refute, not-of-false, by-bool, and-then}
 use Rattle.shape.proofs.Pigeon.{each-once, once-below, place}
 use Rattle.shape.proofs.Order.{chain}
 
@@ -174,6 +174,6 @@ module _ (s : State) (laid : Laid s) (low : (k : ℕ) → k < s .count → ageAt
       let q = place (s .count) (ageAt s) j (each j l) in
       apart-of (blockAt s i) (blockAt s j) (apart-at i j (p .0) (q .0) (p .1) (q .1) (p .2) (q .2) (λ e. omega arith)))
 
-  pub layout-done : all 64 (zeroOk s) ≡ true → layoutOk s ≡ true
+  pub layout-done : all 64 (zeroOk s) ≡ layoutOk s
   unfolding layoutOk
-  layout-done z = and-both (orderOk s) _ order-done (and-both (allPairs (s .count) (bytesApart s)) _ bytes-done (rw z))
+  layout-done = and-then (orderOk s) _ _ order-done (and-then (allPairs (s .count) (bytesApart s)) _ _ bytes-done (sym (and-true (all 64 (zeroOk s)))))

@@ -1,9 +1,7 @@
 -- Two tests compared, and one that is refuted. Assumes nothing.
-use Prim.Native.Nat.{ℕ, zero, suc, _<_}
 use mathlib.Core.Path.{_≡_, refl, sym}
 use mathlib.Core.Bool.{Bool, true, false, not, _&&_, _||_}
 use mathlib.Core.Logic.{_⊎_, inl, inr}
-use native.Mathlib.Omega.{arith}
 use Rattle.numbers.proofs.Split.{not-both}
 
 pub by-bool : {A : Type 0} (b : Bool) → (b ≡ true → A) → (b ≡ false → A) → A
@@ -39,10 +37,3 @@ and-then a b x p q = rw p q
 
 pub not-of-true : (b : Bool) → b ≡ true → not b ≡ false
 not-of-true b e = rw e
-
--- a test at 0, 1 and 2
-pub at-three : (t : ℕ → Bool) → t 0 ≡ true → t 1 ≡ true → t 2 ≡ true → (p : ℕ) → p < 3 → t p ≡ true
-at-three t a b c zero l = a
-at-three t a b c (suc zero) l = b
-at-three t a b c (suc (suc zero)) l = c
-at-three t a b c (suc (suc (suc p))) l = absurd (omega arith)

@@ -1,6 +1,6 @@
 -- Plain facts that are enough for a state that is not BadShape. Assumes nothing.
 use Prim.Native.Nat.{ℕ, _+_, _*_, _%_, _^_, _<_}
-use mathlib.Core.Path.{_≡_, refl, ap}
+use mathlib.Core.Path.{_≡_, refl, sym, ap, _∙_}
 use mathlib.Core.Bool.{Bool, true, false, not, _||_}
 use mathlib.Core.Logic.{_⊎_, ⊎-elim}
 use native.Mathlib.Omega.{arith}
@@ -112,7 +112,7 @@ module _ (s : State) (u t : ℕ) (k : Enough s u t) where
   pub enough-good : goodShape s u t ≡ true
   enough-good =
       whole-good s u t (head-test s u t (k .head) (k .lent)) table-test
-      (layout-done s (laid s (k .head) (k .sound)) (k .age-low) (k .next) zeros-test)
+      (sym (layout-done s (laid s (k .head) (k .sound)) (k .age-low) (k .next)) ∙ zeros-test)
 
 -- and so the facts say no less than the test
 pub shaped-enough : (s : State) (u t : ℕ) → Shaped s u t → Enough s u t

@@ -148,20 +148,21 @@ block-fails s i l e = every-fails (tableTests s) 0 (all-fails (s .count) (λ j. 
 
 -- ---- the end
 module _ {s : State} {seen : List Bool} {pools : List Pool} {total : ℕ} (at : Walked s (s .count) seen pools total) where
-  pub pool-fails : (p : ℕ) → p < 3 → poolLike (poolAt s p) (getD pools p (freshPool 0)) (s .immediate) ≡ false → tableOk s ≡ false
-  unfolding tableOk
-  pool-fails p l e =
-      every-fails (tableTests s) 2
-      (all-fails 3 (λ p. poolLike (poolAt s p) (poolSum s (s .count) p) (s .immediate)) p l
-      (ap (λ (x : Pool). poolLike (poolAt s p) x (s .immediate)) (sym (at .sums p l)) ∙ e))
+  -- the stored sums are like the walk's exactly where they are like the sums said
+  same-sums : all 3 (λ p. poolLike (poolAt s p) (getD pools p (freshPool 0)) (s .immediate)) ≡ all 3 (λ p. poolLike (poolAt s p) (poolSum s (s .count) p) (s .immediate))
+  unfolding all
+  same-sums = simp (at .sums 0 (omega arith), at .sums 1 (omega arith), at .sums 2 (omega arith))
 
-  pub walk-done : ((p : ℕ) → p < 3 → poolLike (poolAt s p) (getD pools p (freshPool 0)) (s .immediate) ≡ true) → leb (s .live) total ≡ tableOk s
+  pub pools-fail : all 3 (λ p. poolLike (poolAt s p) (getD pools p (freshPool 0)) (s .immediate)) ≡ false → tableOk s ≡ false
+  unfolding tableOk
+  pools-fail e = every-fails (tableTests s) 2 (sym same-sums ∙ e)
+
+  pub walk-done : all 3 (λ p. poolLike (poolAt s p) (getD pools p (freshPool 0)) (s .immediate)) ≡ true → leb (s .live) total ≡ tableOk s
   unfolding tableOk
   walk-done good =
       and-then (all (s .count) (λ i. blockOkIn s (blockAt s i))) _ _ (all-of (s .count) (λ i. blockOkIn s (blockAt s i)) (at .fine))
       (and-then (allPairs (s .count) (slotsApart s)) _ _
       (pairs-of (s .count) (slotsApart s) (λ i j h l. not-of-false (eqb (slotOf s i) (slotOf s j)) (ne-eqb (slotOf s i) (slotOf s j) (at .fresh i j h l))))
       (and-then (all 3 (λ p. poolLike (poolAt s p) (poolSum s (s .count) p) (s .immediate))) _ _
-      (all-of 3 (λ p. poolLike (poolAt s p) (poolSum s (s .count) p) (s .immediate))
-      (λ p l. ap (λ (x : Pool). poolLike (poolAt s p) x (s .immediate)) (sym (at .sums p l)) ∙ good p l))
+      (sym same-sums ∙ good)
       (ap (leb (s .live)) (at .total-is) ∙ sym (and-true (liveOk s)))))

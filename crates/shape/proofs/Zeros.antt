@@ -8,9 +8,9 @@ use borrow.Author.Tests.{lt-ltb, le-ltb, eq-eqb, ne-eqb, eqb-true}
 use Rattle.numbers.proofs.Split.{by-eq}
 use Rattle.numbers.specs.Pick.{pick}
 use Rattle.state.specs.declared.State.{State}
-use Rattle.state.specs.Table.{blockAt, ageAt}
+use Rattle.state.specs.Table.{blockAt, ageAt, all}
 use Rattle.state.specs.Shape.{isZero, zeroOk}
-use Rattle.state.proofs.Tests.{and-left, and-right, and-both, and-fails-left, and-fails-right, every-at, every-fails, all-at, all-fails}
+use Rattle.state.proofs.Tests.{and-left, and-right, and-both, and-fails-left, and-fails-right, every-at, all-at, all-fails}
 use Rattle.shape.specs.Parts.{layoutOk}
 use Rattle.shape.proofs.Address.{layoutTests}
 
@@ -30,16 +30,12 @@ zero-here s i h b a = behind-last s i h ∙ and-both (isZero (blockAt s i)) (eqb
 pub zero-more : (s : State) (i : ℕ) → ((j : ℕ) → j < i → zeroOk s j ≡ true) → zeroOk s i ≡ true → (j : ℕ) → j < i + 1 → zeroOk s j ≡ true
 zero-more s i before e j l = by-eq j i (λ q. ap (zeroOk s) q ∙ e) (λ ne. before j (omega (arith, ne)))
 
-zero-fails : (s : State) (i : ℕ) → i < 64 → zeroOk s i ≡ false → layoutOk s ≡ false
-unfolding layoutOk
-zero-fails s i l e = every-fails (layoutTests s) 2 (all-fails 64 (zeroOk s) i l e)
+pub block-not-zero : (s : State) (i : ℕ) → s .count ≤ i → i < 64 → isZero (blockAt s i) ≡ false → all 64 (zeroOk s) ≡ false
+block-not-zero s i h l e = all-fails 64 (zeroOk s) i l (behind-last s i h ∙ and-fails-left (isZero (blockAt s i)) (eqb (ageAt s i) 0) e)
 
-pub block-not-zero : (s : State) (i : ℕ) → s .count ≤ i → i < 64 → isZero (blockAt s i) ≡ false → layoutOk s ≡ false
-block-not-zero s i h l e = zero-fails s i l (behind-last s i h ∙ and-fails-left (isZero (blockAt s i)) (eqb (ageAt s i) 0) e)
-
-pub age-not-zero : (s : State) (i : ℕ) → s .count ≤ i → i < 64 → (ageAt s i ≡ 0 → ⊥) → layoutOk s ≡ false
+pub age-not-zero : (s : State) (i : ℕ) → s .count ≤ i → i < 64 → (ageAt s i ≡ 0 → ⊥) → all 64 (zeroOk s) ≡ false
 age-not-zero s i h l ne =
-    zero-fails s i l (behind-last s i h ∙ and-fails-right (isZero (blockAt s i)) (eqb (ageAt s i) 0) (ne-eqb (ageAt s i) 0 ne))
+    all-fails 64 (zeroOk s) i l (behind-last s i h ∙ and-fails-right (isZero (blockAt s i)) (eqb (ageAt s i) 0) (ne-eqb (ageAt s i) 0 ne))
 
 -- and what a test that passes says
 module _ (s : State) (good : layoutOk s ≡ true) (i : ℕ) (h : s .count ≤ i) (l : i < 64) where
