@@ -1,6 +1,7 @@
-// Runs `numbers` on vectors. `stdout` has what the Rust's functions answer, and for units and bytes what plain arithmetic does.
+// Runs `numbers`, `sizes` and `limits` on vectors and on the edge figures that need no call. `stdout` has what the Rust's functions answer, for
+// units and bytes what plain arithmetic does, and for sizes what document 01 says, reckoned by plain arithmetic.
 ghost use mathlib.Core.Path.{_≡_};
-ghost use Prim.Native.Nat.{_*_, _≤_};
+ghost use Prim.Native.Nat.{_*_, _≤_, _<_, _^_};
 
 fn number(n: u64) {
     io::write_all(1, b" ");
@@ -70,7 +71,7 @@ fn units(size: u64, unit: u64) {
     }
 }
 
-fn sizes(size: u64) {
+fn units_of(size: u64) {
     units(size, 64);
     units(size, 128);
     units(size, 256);
@@ -78,7 +79,115 @@ fn sizes(size: u64) {
     units(size, 1024);
 }
 
-fn main() {
+// `granularity ASKED G`
+fn granularity(asked: u32) {
+    io::write_all(1, b"granularity");
+    number(asked as u64);
+    number(limits::granularity_in_force(asked));
+    line_end();
+}
+
+// `base ASKED SIZE`
+fn base(asked: u32) {
+    io::write_all(1, b"base");
+    number(asked as u64);
+    number(limits::base_size_in_force(asked));
+    line_end();
+}
+
+// ` to SIZE`, or ` refused N`
+fn answer(r: sizes::Rounded) {
+    match r {
+        sizes::Rounded::To(size) => {
+            io::write_all(1, b" to");
+            number(size);
+        }
+        sizes::Rounded::Refused(n) => {
+            io::write_all(1, b" refused");
+            number(n as u64);
+        }
+    }
+}
+
+// `round SIZE G to ROUNDED`, or `round SIZE G refused N`
+fn round(size: u64, g: u64) {
+    if 0 < g {
+        io::write_all(1, b"round");
+        number(size);
+        number(g);
+        answer(sizes::round_size(size, g));
+        line_end();
+    }
+}
+
+fn rounds(size: u64) {
+    round(size, 64);
+    round(size, 128);
+    round(size, 256);
+}
+
+// The pool of a size at granularity 64, where there are three, and where there is one.
+struct Pools {
+    of_three: usize,
+    of_one: usize,
+}
+
+fn pools_of(size: u64) -> Pools
+    requires { ⌜ size < 2 ^ 32 ⌝ }
+{
+    Pools {
+        of_three: sizes::size_to_pool_id(size, 64, 3),
+        of_one: sizes::size_to_pool_id(size, 64, 1),
+    }
+}
+
+// `pool SIZE OF_THREE OF_ONE`
+fn pool(size: u64) {
+    if size < 4294967296 {
+        io::write_all(1, b"pool");
+        number(size);
+        let pools = pools_of(size);
+        number(pools.of_three as u64);
+        number(pools.of_one as u64);
+        line_end();
+    }
+}
+
+// Of every size up to 2,048 bytes, in steps of 64.
+fn every_pool() {
+    let mut size: u64 = 64;
+    while size <= 2048 {
+        pool(size);
+        size += 64;
+    }
+}
+
+// `ideal NEWEST REQUEST SIZE`
+fn ideal(newest: u64, size: u64) {
+    if 0 < newest {
+        if newest <= 134217728 {
+            if size < 4294967296 {
+                io::write_all(1, b"ideal");
+                number(newest);
+                number(size);
+                number(sizes::calculate_ideal_block_size(newest, size));
+                line_end();
+            }
+        }
+    }
+}
+
+fn ideals(newest: u64) {
+    ideal(newest, 64);
+    ideal(newest, 131072);
+    ideal(newest, 300032);
+    ideal(newest, 786496);
+    ideal(newest, 1000000);
+    ideal(newest, 1310784);
+    ideal(newest, 2147483584);
+}
+
+fn numbers_given() {
     alignments(0);
     alignments(1);
     alignments(63);
@@ -107,17 +216,57 @@ fn main() {
     alignments(18446744073709551553);
     alignments(18446744073709551614);
     alignments(18446744073709551615);
-    sizes(0);
-    sizes(1);
-    sizes(63);
-    sizes(64);
-    sizes(65);
-    sizes(100);
-    sizes(192);
-    sizes(1023);
-    sizes(1024);
-    sizes(65536);
-    sizes(300032);
-    sizes(2147483584);
-    sizes(274877906880);
+}
+
+fn sizes_given() {
+    units_of(0);
+    units_of(1);
+    units_of(63);
+    units_of(64);
+    units_of(65);
+    units_of(100);
+    units_of(192);
+    units_of(1023);
+    units_of(1024);
+    units_of(65536);
+    units_of(300032);
+    units_of(2147483584);
+    units_of(274877906880);
+}
+
+fn creations() {
+    granularity(32);
+    granularity(96);
+    granularity(512);
+    granularity(256);
+    granularity(64);
+    granularity(128);
+    granularity(0);
+    base(65536);
+    base(131072);
+    base(33554432);
+    base(67108864);
+    base(0);
+    base(65537);
+    base(98304);
+}
+
+fn main() {
+    numbers_given();
+    sizes_given();
+    creations();
+    rounds(2147483584);
+    rounds(0);
+    rounds(1);
+    rounds(18446744073709551553);
+    rounds(18446744073709551552);
+    rounds(2147483585);
+    every_pool();
+    ideals(65536);
+    ideals(131072);
+    ideals(393216);
+    ideals(786432);
+    ideals(16777216);
+    ideals(33554432);
+    ideals(67108864);
 }

@@ -77,16 +77,17 @@ fn pool_line(id: u64, p: Pool) {
     line_end();
 }
 
-// `count N`, the blocks of ages 0 to 4, `order ..` for places 0 to 4, and the pools
-fn table(s: State) {
-    io::write_all(1, b"count");
-    number(s.count as u64);
-    line_end();
+// of ages 0 to 4
+fn blocks(s: State) {
     block_line(0, s.blocks[0]);
     block_line(1, s.blocks[1]);
     block_line(2, s.blocks[2]);
     block_line(3, s.blocks[3]);
     block_line(4, s.blocks[4]);
+}
+
+// `order ..`, for places 0 to 4
+fn order(s: State) {
     io::write_all(1, b"order");
     number(s.order[0] as u64);
     number(s.order[1] as u64);
@@ -94,9 +95,22 @@ fn table(s: State) {
     number(s.order[3] as u64);
     number(s.order[4] as u64);
     line_end();
+}
+
+fn pools(s: State) {
     pool_line(0, s.pool[0]);
     pool_line(1, s.pool[1]);
     pool_line(2, s.pool[2]);
+}
+
+// `count N`, the blocks, the order and the pools
+fn table(s: State) {
+    io::write_all(1, b"count");
+    number(s.count as u64);
+    line_end();
+    blocks(s);
+    order(s);
+    pools(s);
 }
 
 // ` at N`, or ` nothing`

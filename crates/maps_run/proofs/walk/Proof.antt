@@ -1,7 +1,7 @@
--- `runs_run::walk` meets its contract. The invariant says nothing: what `step` requires is tested in each turn. The measure is the fuel. Assumes nothing.
+-- `maps_run::walk` meets its contract. The invariant says nothing: what `step` requires is tested in each turn. The measure is the fuel. Assumes nothing.
 use borrow.Author.Needs.{needs}
-use Rattle.runs_run.proofs.walk.Statement.{statement}
-use Rattle.runs_run.proofs.walk.Tie as tie
+use Rattle.maps_run.proofs.walk.Statement.{statement}
+use Rattle.maps_run.proofs.walk.Tie as tie
 
 abbrev Inv-loop : tie.InvT-loop
 Inv-loop words start end at₀ word₀ fuel₀ at word fuel = Unit {0}

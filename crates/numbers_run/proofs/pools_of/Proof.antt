@@ -1,11 +1,11 @@
--- `sizes_run::pools_of` meets its contract: 64 is a granularity, and there are three pools, or one. Assumes nothing.
+-- `numbers_run::pools_of` meets its contract: 64 is a granularity, and there are three pools, or one. Assumes nothing.
 use mathlib.Core.Path.{refl}
 use mathlib.Core.Logic.{inl, inr}
 use native.Mathlib.Omega.{arith}
 use borrow.Author.Needs.{needs}
 use Rattle.sizes.specs.Limits.{isGranularity}
-use Rattle.sizes_run.proofs.pools_of.Statement.{statement}
-use Rattle.sizes_run.proofs.pools_of.Tie as tie
+use Rattle.numbers_run.proofs.pools_of.Statement.{statement}
+use Rattle.numbers_run.proofs.pools_of.Tie as tie
 
 size-to-pool-id-requires : tie.Need-size-to-pool-id-requires
 unfolding isGranularity
