@@ -1,4 +1,4 @@
-// The walk that keeps hold of the words it reads, as in the Rust. Its functions are thin over `next_range` of runs: one takes it apart, one makes it.
+// The walk that keeps hold of the words it reads, as in the Rust. Its functions are thin over `next_range` of ranges: one takes it apart, one makes it.
 use runs::Next;
 ghost use Rattle.runs.specs.Walk.{Stands, Answer};
 
@@ -13,7 +13,7 @@ pub fn held_next<'a>(r: BitVectorRangeIterator<'a>, hint: usize) -> Next
     requires { ⌜ Stands (now (r .slice)) (r .at) (r .end) ⌝ }
     ensures { λ s. ⌜ Answer (now (r .entry .slice)) (r .entry .at) (r .entry .word) (r .entry .end) hint s ⌝ }
 {
-    runs::next_range(r.slice, r.at, r.word, r.end, hint)
+    ranges::next_range(r.slice, r.at, r.word, r.end, hint)
 }
 
 // A step of the held walk for a caller whose own parameters are plain, as the search.

@@ -62,10 +62,10 @@ fn range(p: usize, index: usize, count: usize, value: bool) {
             place(p, index);
             number(count as u64);
             if value {
-                bits::bit_vector_fill(&mut map, index, count);
+                fill::bit_vector_fill(&mut map, index, count);
                 words(&map);
             } else {
-                bits::bit_vector_clear(&mut map, index, count);
+                fill::bit_vector_clear(&mut map, index, count);
                 words(&map);
             }
         }

@@ -35,9 +35,9 @@ fn put(part: &mut [u32], at: usize, n: usize, value: bool)
     ensures { λ _. ⌜ now (part .exit) ≡ filled (now (part .entry)) at n (boolByte value) ⌝ }
 {
     if value {
-        bits::bit_vector_fill(part, at, n);
+        fill::bit_vector_fill(part, at, n);
     } else {
-        bits::bit_vector_clear(part, at, n);
+        fill::bit_vector_clear(part, at, n);
     }
 }
 

@@ -50,10 +50,10 @@ use Rattle.held.proofs.BitVectorRangeIterator as T
 use Rattle.held.proofs.BitVectorRangeIterator.Laws as T′
 use Rattle.runs.proofs.Next as S
 use Rattle.runs.proofs.Next.Laws as S′
-use Rattle.runs.proofs.next_range as range
-use Rattle.runs.proofs.next_range.Symbol as range-def
-use Rattle.runs.proofs.next_range.Symbol.{name as #runs·next-range}
-use Rattle.runs.proofs.next_range.Met as range-thm
+use Rattle.ranges.proofs.next_range as range
+use Rattle.ranges.proofs.next_range.Symbol as range-def
+use Rattle.ranges.proofs.next_range.Symbol.{name as #ranges·next-range}
+use Rattle.ranges.proofs.next_range.Met as range-thm
 use Rattle.held.proofs.held_next.Key.{name as #held·held-next}
 use Rattle.held.proofs.held_next as held
 use Rattle.held.proofs.held_next.Statement as stated
@@ -132,7 +132,7 @@ module _ {M : Type 1} (𝓤 : URA M) (H : Heap 𝓤) (A : Atoms 𝓤) (W : Given
       suffices ! _ (ends-at 𝓤 H A held.ended stayed (held.clauses 𝓤 H A mem run) W (((κ, tt), (q, tt), tt, (d, (n, tt)), vals), tt) u r (tt, (tt, tt)) (tt, (tt, tt))) $ says ! e $
       move ! (1 ∷ []) $ frame ! $ nothing ! $ owned ! usize (Is usize) (uint-makes 𝓤 H A W w64) n _ (refl, n-fits) $ fjoin ! $ move ! (2 ∷ 0 ∷ []) $ fjoin ! $ frame ! $ done !
 
-  module _ (C : Calls 𝓤 H) (Λ : Loops 𝓤 H) (fm : FmC 𝓤 H (W .laws) C) (known : Triple 𝓤 (C #runs·next-range) (NextRange 𝓤 H A mem run)) where
+  module _ (C : Calls 𝓤 H) (Λ : Loops 𝓤 H) (fm : FmC 𝓤 H (W .laws) C) (known : Triple 𝓤 (C #ranges·next-range) (NextRange 𝓤 H A mem run)) where
     walk : Holds (hasTy (T′.mir (named 0)) mach) × WT mach → n < 2 ^ 64 → Stands (now (d .slice)) (d .at) (d .end)
         → ent 𝓤 (onEntry 𝓤 H A held.signature (κ, tt) (q, tt) (d, (n, tt)) vals) (WpFn 𝓤 H C Λ code.function (mach ∷ vint w64 n ∷ []) Post)
     walk wt n-fits w =
@@ -156,13 +156,13 @@ module _ {M : Type 1} (𝓤 : URA M) (H : Heap 𝓤) (A : Atoms 𝓤) (W : Given
         by ! (exits r u n-fits e))))))))))))
 
 module _ {M : Type 1} (𝓤 : URA M) (H : Heap 𝓤) (A : Atoms 𝓤) (W : Given 𝓤 H A) (mem : Memory → SProp 𝓤) (run : Routine → Fun 𝓤) where
-  held-walks : (C : Calls 𝓤 H) (Λ : Loops 𝓤 H) → FmC 𝓤 H (W .laws) C → Triple 𝓤 (C #runs·next-range) (NextRange 𝓤 H A mem run)
+  held-walks : (C : Calls 𝓤 H) (Λ : Loops 𝓤 H) → FmC 𝓤 H (W .laws) C → Triple 𝓤 (C #ranges·next-range) (NextRange 𝓤 H A mem run)
       → Walks 𝓤 H A held.ended stayed (WpFn 𝓤 H C Λ code.function) (held.clauses 𝓤 H A mem run)
   held-walks C Λ fm known = walked 𝓤 H A held.ended stayed (held.clauses 𝓤 H A mem run) (WpFn 𝓤 H C Λ code.function) (λ κs. (LL.vals (T.the-type (namedLft 1 0 tt κs)) (T′.the-laws (namedLft 1 0 tt κs)), (uint-vals w64, tt))) (λ κs. (LL.tells (T.the-type (namedLft 1 0 tt κs)) (T′.the-laws (namedLft 1 0 tt κs)), (uint-tells w64, tt)))
       (λ κs qs bounds a g are. needs 𝓤 (Stands (now (a .0 .slice)) (a .0 .at) (a .0 .end)) _ (walk 𝓤 H A W mem run (κs .0) (qs .0) (a .0) (a .1 .0) C Λ fm known (LL.lawful (T.the-type (namedLft 1 0 tt κs)) (T′.the-laws (namedLft 1 0 tt κs)) 𝓤 H A W .typed (a .0) _ (are .0) .0) (are .1 .0 .1)))
 
 held-meets : {M : Type 1} (𝓤 : URA M) (H : Heap 𝓤) (A : Atoms 𝓤) (W : Given 𝓤 H A) (mem : Memory → SProp 𝓤) (run : Routine → Fun 𝓤) (𝓣 : Tables 𝓤 H)
-    → Triple 𝓤 (𝓣 .C #runs·next-range) (NextRange 𝓤 H A mem run)
+    → Triple 𝓤 (𝓣 .C #ranges·next-range) (NextRange 𝓤 H A mem run)
     → Meets 𝓤 H A held.signature (WpFn 𝓤 H (𝓣 .C) (𝓣 .Λ) code.function) (held.spec 𝓤 H A mem run)
 held-meets 𝓤 H A W mem run 𝓣 known-range = walk-meets 𝓤 H A held.ended stayed W (goes-none 𝓤 H A W 1 B yes (λ κs x f. refl), (goes-none 𝓤 H A W 1 (λ _. usize) yes (λ κs x f. refl), tt)) (held.clauses 𝓤 H A mem run) (WpFn 𝓤 H (𝓣 .C) (𝓣 .Λ) code.function) (WpFn-mono 𝓤 H (W .laws) 𝓣 code.function)
     (held-walks 𝓤 H A W mem run (𝓣 .C) (𝓣 .Λ) (fmOf 𝓤 H (W .laws) 𝓣) known-range)
@@ -173,4 +173,4 @@ held-next-spec 𝓤 H 𝓜 𝓖 𝓡 =
     entered 𝓤 H (tripleOf 𝓤 H (𝓖 .A) held.signature (held.spec 𝓤 H (𝓖 .A) (𝓜 .mem) (𝓡 .run)))
     (tables 𝓤 H 𝓜 𝓡 code.env .C) (tables 𝓤 H 𝓜 𝓡 code.env .Λ) #held·held-next code.function (code.unfolded 𝓤 H 𝓜 𝓡)
     (held-meets 𝓤 H (𝓖 .A) (givenOf 𝓤 H 𝓜 𝓖) (𝓜 .mem) (𝓡 .run) (tablesOf 𝓤 H 𝓜 (tables 𝓤 H 𝓜 𝓡 code.env))
-    (cited 𝓤 H (NextRange 𝓤 H (𝓖 .A) (𝓜 .mem) (𝓡 .run)) 𝓜 𝓡 code.env #runs·next-range range-def.routine code.calls-runs·next-range (range-thm.met 𝓤 H 𝓜 𝓖 𝓡)))
+    (cited 𝓤 H (NextRange 𝓤 H (𝓖 .A) (𝓜 .mem) (𝓡 .run)) 𝓜 𝓡 code.env #ranges·next-range range-def.routine code.calls-ranges·next-range (range-thm.met 𝓤 H 𝓜 𝓖 𝓡)))

@@ -8,10 +8,10 @@ use Rattle.bits.proofs.Digits.{tz-lt}
 use Rattle.numbers.proofs.Split.{le-or-lt}
 use lib.ListN.{length, getD}
 use Rattle.bits.specs.Bits.{bit}
 use Rattle.runs.specs.Walk.{ClearIn, Ends}
 use Rattle.runs.proofs.Laws.{seen-past, ends-later, zero-word}
-use Rattle.runs.proofs.extend.Statement.{statement}
-use Rattle.runs.proofs.extend.Tie as tie
+use Rattle.ranges.proofs.extend.Statement.{statement}
+use Rattle.ranges.proofs.extend.Tie as tie
 
 abbrev Inv-loop : tie.InvT-loop
 Inv-loop words from start end hint at₀ e₀ at e =

@@ -1,9 +1,9 @@
 use borrow.Author.Needs.{needs}
 use native.Mathlib.Omega.{arith}
 use mir.Val.{boolByte}
 use Rattle.bits.proofs.Fill.{filled-lent}
-use Rattle.bits.proofs.bitvector_op.Statement.{statement}
-use Rattle.bits.proofs.bitvector_op.Tie as tie
+use Rattle.fill.proofs.bitvector_op.Statement.{statement}
+use Rattle.fill.proofs.bitvector_op.Tie as tie
 
 mul-put-bits : tie.Need-mul-put-bits
 mul-put-bits c = search needs

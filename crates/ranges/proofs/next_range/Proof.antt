@@ -8,11 +8,11 @@ use Rattle.bits.specs.Bits.{digit, bit}
 use Rattle.bits.specs.Walk.{flipped, Seen}
 use Rattle.bits.proofs.Digits.{tz-lt, digit-of-zero}
 use Rattle.bits.proofs.Find.{seen-none, lowest, Lowest, from-lt, flipped-lt}
 use Rattle.runs.specs.Walk.{RunFrom}
 use Rattle.runs.proofs.Laws.{used-is, restOf, run-clear, ends-here}
 use borrow.Author.Needs.{needs}
-use Rattle.runs.proofs.next_range.Statement.{statement}
-use Rattle.runs.proofs.next_range.Tie as tie
+use Rattle.ranges.proofs.next_range.Statement.{statement}
+use Rattle.ranges.proofs.next_range.Tie as tie
 
 skip-requires : tie.Need-skip-requires
 skip-requires c κs = search needs

@@ -2,10 +2,10 @@ use Prim.Native.Nat.{ℕ, _+_, _≤_, _-_}
 use mathlib.Core.Path.{_≡_, subst}
 use native.Mathlib.Omega.{arith}
 use mir.Val.{boolByte}
 use Rattle.bits.specs.Bits.{Filled}
 use Rattle.bits.proofs.Fill.{filled-none, filled-more}
-use Rattle.bits.proofs.put_bits.Statement.{statement}
-use Rattle.bits.proofs.put_bits.Tie as tie
+use Rattle.fill.proofs.put_bits.Statement.{statement}
+use Rattle.fill.proofs.put_bits.Tie as tie
 
 abbrev Inv-loop : tie.InvT-loop
 Inv-loop buf₀ index count value i₀ buf i = (i ≤ count) × Filled buf₀ index i (boolByte value) buf

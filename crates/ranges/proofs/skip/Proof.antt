@@ -6,8 +6,8 @@ use borrow.Author.Needs.{needs}
 use lib.ListN.{length, getD}
 use Rattle.bits.specs.Walk.{Seen}
 use Rattle.bits.proofs.Find.{seen-word, seen-none}
-use Rattle.runs.proofs.skip.Statement.{statement}
-use Rattle.runs.proofs.skip.Tie as tie
+use Rattle.ranges.proofs.skip.Statement.{statement}
+use Rattle.ranges.proofs.skip.Tie as tie
 
 abbrev Inv-loop : tie.InvT-loop
 Inv-loop words from left end at₀ word₀ at word = (at ≤ length words) × ((p : ℕ) → Seen words end p 0 at₀ word₀ → Seen words end p 0 at word)
