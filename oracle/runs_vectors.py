@@ -14,11 +14,8 @@ naively: units by integer arithmetic, maps bit by bit, sizes by the words of doc
 
 The outputs that the programs are held to are made again so, in the repository's root:
 
-  { oracle/leaves numbers; oracle/runs_vectors.py units; } > crates/numbers_run/stdout
-  oracle/leaves bits > crates/bits_run/stdout
-  oracle/runs_vectors.py slots > crates/slots_run/stdout
-  oracle/runs_vectors.py windows > crates/runs_run/stdout
-  oracle/runs_vectors.py sizes > crates/sizes_run/stdout
+  { oracle/leaves numbers; oracle/runs_vectors.py units; oracle/runs_vectors.py sizes; } > crates/numbers_run/stdout
+  { oracle/leaves bits; oracle/runs_vectors.py slots; oracle/runs_vectors.py windows; } > crates/maps_run/stdout
   oracle/runs_vectors.py tables > crates/table_run/stdout
 """
 
