@@ -37,11 +37,13 @@ fn alloc_rounded(s: State, used: &mut [u32], stop: &mut [u32], bytes: u64) -> Ou
     let hit = found.hit;
     let r = found.state;
     match hit {
-        Hit::At(j, i) => grant::mark_span(r, used, stop, j, i, n),
+        Hit::At(j, i) => {
+            return grant::mark_span(r, used, stop, j, i, n);
+        }
         Hit::Nowhere => {
             let newest = table::newest_size(r, p);
             let size = sizes::calculate_ideal_block_size(newest, bytes);
-            make::new_span(r, used, stop, p, n, size)
+            return make::new_span(r, used, stop, p, n, size);
         }
     }
 }
@@ -55,7 +57,11 @@ pub fn alloc(s: State, used: &mut [u32], stop: &mut [u32], size: u64) -> Outcome
     }
     let rounded = sizes::round_size(size, s.g);
     match rounded {
-        Rounded::To(bytes) => alloc_rounded(s, used, stop, bytes),
-        Rounded::Refused(number) => state::refused(s, size_refusal(number)),
+        Rounded::To(bytes) => {
+            return alloc_rounded(s, used, stop, bytes);
+        }
+        Rounded::Refused(number) => {
+            return state::refused(s, size_refusal(number));
+        }
     }
 }

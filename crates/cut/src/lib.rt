@@ -2,10 +2,9 @@
 use state::Answer;
 use state::Outcome;
 use state::Refusal;
-use state::Span;
 use state::State;
 ghost use mathlib.Core.Path.{_≡_};
-ghost use Prim.Native.Nat.{_-_, _<_, _≤_};
+ghost use Prim.Native.Nat.{_-_, _*_, _^_, _<_, _≤_};
 ghost use lib.ListN.{length};
 ghost use Rattle.numbers.specs.Units.{unitsOf};
 ghost use Rattle.block.specs.Record.{SpanIn};
@@ -26,9 +25,19 @@ fn cut_off(s: State, used: &mut [u32], stop: &mut [u32], j: usize, from: u32, to
         (markShrunk (s .w) (blockAt s j) from to (now (used .entry)) (now (stop .entry)) .used)
         (markShrunk (s .w) (blockAt s j) from to (now (used .entry)) (now (stop .entry)) .stop)) ⌝ }
 {
-    let b = s.blocks[j];
+    let b = entry::block_at(s, j);
     let less = mark::mark_shrunk_area(b, used, stop, s.w, from, to);
     settle::less_used(s, j, less, to - from)
+}
+
+// How many units of block `j` hold that many bytes.
+fn units_for(s: State, j: usize, size: u64) -> u32
+    requires { ⌜ (j < 64) × (blockAt s j .pool < 3) × (0 < unitOf s (blockAt s j)) × (size ≤ (2 ^ 32 - 1) * unitOf s (blockAt s j)) ⌝ }
+    ensures { λ r. ⌜ r ≡ unitsOf size (unitOf s (blockAt s j)) ⌝ }
+{
+    let b = entry::block_at(s, j);
+    let pool = entry::pool_at(s, b.pool);
+    numbers::area_size_from_byte_size(size, pool.granularity)
 }
 
 // The span of block `j` from unit `i` up to `e` keeps what `size` bytes take. A size may be too large to be turned into units, so the
@@ -48,20 +57,13 @@ pub fn keep(
     ensures { λ r. ⌜ turn (r .answer) (r .state) (now (used .exit)) (now (stop .exit))
         ≡ unitsTurn s (now (used .entry)) (now (stop .entry)) address j i e (unitsOf size (unitOf s (blockAt s j))) ⌝ }
 {
-    let b = s.blocks[j];
-    let p = b.pool;
-    let pool = s.pool[p];
-    let unit = pool.granularity;
-    let whole = numbers::byte_size_from_area_size(e - i, unit);
-    if whole < size {
+    let whole = entry::span_at(s, j, address, e - i);
+    if whole.size < size {
         return state::refused(s, Refusal::InvalidState);
     }
-    let n = numbers::area_size_from_byte_size(size, unit);
-    let kept = numbers::byte_size_from_area_size(n, unit);
-    let answer = Answer::Shrunk(Span {
-        address,
-        size: kept,
-    });
+    let n = units_for(s, j, size);
+    let kept = entry::span_at(s, j, address, n);
+    let answer = Answer::Shrunk(kept);
     if n == e - i {
         return Outcome { answer, state: s };
     }

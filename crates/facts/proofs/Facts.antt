@@ -93,6 +93,11 @@ module _ (s : State) (u t : ℕ) (f : Shaped s u t) where
         high = ltb-true _ _ (and-right (leb (blockAt s j .base) a) (ltb a (blockAt s j .base + blockAt s j .size)) e);
       }
 
+  -- what stands there may be asked
+  pub askable : (j a : ℕ) → j < s .count → holds (blockAt s j) a ≡ true
+      → (j < 64) × (blockAt s j .pool < 3) × Placed (blockAt s j) (s .w) u t × Within (blockAt s j) (unitOf s (blockAt s j)) a
+  askable j a h e = (omega (arith, count-64), pool-3 j h, placed j h, within j a h e)
+
 -- ---- a block that the lookup finds holds the address
 pub found-in : (s : State) (a j : ℕ) → At j ≡ lookup s a → (j < s .count) × (holds (blockAt s j) a ≡ true)
 found-in s a j e =
@@ -129,3 +134,10 @@ bytes-fit s u t f p n h l =
       ap (λ (k : ℕ). n * k) (unit-g s u t f p h),
       mul-le-mul {n₁ = n} {m₁ = s .g} {n₂ = 524288} {m₂ = 256} (omega (arith, f .head .w-high)) (f .head .g-high),
     )
+
+-- some units of a block make a span
+pub spannable : (s : State) (u t : ℕ) → Shaped s u t → (j : ℕ) → j < s .count → (n : ℕ) → n ≤ blockAt s j .area
+    → (j < 64) × (blockAt s j .pool < 3) × (n * unitOf s (blockAt s j) < 2 ^ 64)
+spannable s u t f j h n l =
+    let p = pool-3 s u t f j h in
+    (omega (arith, count-64 s u t f), p, omega (arith, bytes-fit s u t f (blockAt s j .pool) n p (omega (arith, f .sound j h .area-high))))

@@ -3,7 +3,6 @@ use state::Answer;
 use state::Found;
 use state::Held;
 use state::Refusal;
-use state::Span;
 use state::State;
 ghost use mathlib.Core.Path.{_≡_};
 ghost use lib.ListN.{length};
@@ -20,17 +19,16 @@ pub fn query(s: State, used: &[u32], stop: &[u32], address: u64) -> Answer
     let Found::At(j) = found else {
         return Answer::Refused(Refusal::InvalidArgument);
     };
-    let b = s.blocks[j];
-    let p = b.pool;
-    let pool = s.pool[p];
-    let unit = pool.granularity;
-    let held = spans::held_in(b, used, stop, s.w, unit, address);
+    let held = spans::held_in(s, used, stop, j, address);
     match held {
-        Held::NoSpan => Answer::Refused(Refusal::InvalidArgument),
-        Held::NoStop => Answer::Refused(Refusal::Damaged),
+        Held::NoSpan => {
+            return Answer::Refused(Refusal::InvalidArgument);
+        }
+        Held::NoStop => {
+            return Answer::Refused(Refusal::Damaged);
+        }
         Held::Units(i, e) => {
-            let size = numbers::byte_size_from_area_size(e - i, unit);
-            Answer::Shown(Span { address, size })
+            return Answer::Shown(entry::span_at(s, j, address, e - i));
         }
     }
 }

@@ -4,7 +4,6 @@ use state::Found;
 use state::Held;
 use state::Outcome;
 use state::Refusal;
-use state::Span;
 use state::State;
 ghost use mathlib.Core.Path.{_≡_};
 ghost use Prim.Native.Nat.{_-_, _<_, _≤_};
@@ -12,10 +11,11 @@ ghost use lib.ListN.{length};
 ghost use Rattle.block.specs.Record.{SpanIn};
 ghost use Rattle.block.specs.Marking.{markReleased};
 ghost use Rattle.state.specs.declared.Answer.{Answer};
+ghost use Rattle.state.specs.declared.Held.the-variants.{Units};
 ghost use Rattle.state.specs.Table.{blockAt};
 ghost use Rattle.shape.specs.Shaped.{Shaped};
 ghost use Rattle.rules.specs.Turn.{turn, withLive};
-ghost use Rattle.rules.specs.Release.{lessUsed, settle, releaseTurn};
+ghost use Rattle.rules.specs.Release.{lessUsed, settle, releasedTurn, releaseTurn};
 
 // The span of block `j` from unit `i` up to `e` goes.
 fn free(s: State, used: &mut [u32], stop: &mut [u32], j: usize, i: u32, e: u32) -> State
@@ -26,11 +26,35 @@ fn free(s: State, used: &mut [u32], stop: &mut [u32], j: usize, i: u32, e: u32) 
         (markReleased (s .w) (blockAt s j) i e (now (used .entry)) (now (stop .entry)) .used)
         (markReleased (s .w) (blockAt s j) i e (now (used .entry)) (now (stop .entry)) .stop) j) ⌝ }
 {
-    let b = s.blocks[j];
+    let b = entry::block_at(s, j);
     let less = mark::mark_released_area(b, used, stop, s.w, i, e);
     let mut r = settle::less_used(s, j, less, e - i);
     r.live = s.live - 1;
     settle::settle(r, used, stop, j)
+}
+
+// The same, if the counts allow it: a span longer than its block's used count, and one that is not counted, show damage.
+fn give_back(
+    s: State,
+    used: &mut [u32],
+    stop: &mut [u32],
+    address: u64,
+    j: usize,
+    i: u32,
+    e: u32,
+) -> Outcome
+    requires { ⌜ Shaped s (length (now used)) (length (now stop)) × (j < s .count) × SpanIn (blockAt s j) i e ⌝ }
+    ensures { λ r. ⌜ turn (r .answer) (r .state) (now (used .exit)) (now (stop .exit))
+        ≡ releasedTurn s (now (used .entry)) (now (stop .entry)) address j (Units i e) ⌝ }
+{
+    let b = entry::block_at(s, j);
+    if b.used < e - i || s.live == 0 {
+        return state::refused(s, Refusal::Damaged);
+    }
+    let span = entry::span_at(s, j, address, e - i);
+    let state = free(s, used, stop, j, i, e);
+    let answer = Answer::Released(span);
+    Outcome { answer, state }
 }
 
 // The span that starts at an address goes.
@@ -47,24 +71,16 @@ pub fn release(s: State, used: &mut [u32], stop: &mut [u32], address: u64) -> Ou
     let Found::At(j) = found else {
         return state::refused(s, Refusal::InvalidState);
     };
-    let b = s.blocks[j];
-    let p = b.pool;
-    let pool = s.pool[p];
-    let unit = pool.granularity;
-    let held = spans::held_in(b, used, stop, s.w, unit, address);
+    let held = spans::held_in(s, used, stop, j, address);
     match held {
-        Held::NoSpan => state::refused(s, Refusal::InvalidArgument),
-        Held::NoStop => state::refused(s, Refusal::Damaged),
+        Held::NoSpan => {
+            return state::refused(s, Refusal::InvalidArgument);
+        }
+        Held::NoStop => {
+            return state::refused(s, Refusal::Damaged);
+        }
         Held::Units(i, e) => {
-            if b.used < e - i || s.live == 0 {
-                return state::refused(s, Refusal::Damaged);
-            }
-            let size = numbers::byte_size_from_area_size(e - i, unit);
-            let state = free(s, used, stop, j, i, e);
-            Outcome {
-                answer: Answer::Released(Span { address, size }),
-                state,
-            }
+            return give_back(s, used, stop, address, j, i, e);
         }
     }
 }

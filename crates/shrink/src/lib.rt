@@ -26,19 +26,20 @@ pub fn shrink(s: State, used: &mut [u32], stop: &mut [u32], address: u64, size: 
     let Found::At(j) = found else {
         return state::refused(s, Refusal::InvalidArgument);
     };
-    let b = s.blocks[j];
-    let p = b.pool;
-    let pool = s.pool[p];
-    let unit = pool.granularity;
-    let held = spans::held_in(b, used, stop, s.w, unit, address);
+    let held = spans::held_in(s, used, stop, j, address);
     match held {
-        Held::NoSpan => state::refused(s, Refusal::InvalidArgument),
-        Held::NoStop => state::refused(s, Refusal::Damaged),
+        Held::NoSpan => {
+            return state::refused(s, Refusal::InvalidArgument);
+        }
+        Held::NoStop => {
+            return state::refused(s, Refusal::Damaged);
+        }
         Held::Units(i, e) => {
+            let b = entry::block_at(s, j);
             if b.used < e - i {
                 return state::refused(s, Refusal::Damaged);
             }
-            cut::keep(s, used, stop, address, size, j, i, e)
+            return cut::keep(s, used, stop, address, size, j, i, e);
         }
     }
 }

@@ -1,6 +1,7 @@
 // What stands at an address of a block: whether a span starts there, and where it ends.
 use block::Block;
 use state::Held;
+use state::State;
 ghost use mathlib.Core.Path.{_≡_};
 ghost use Prim.Native.Nat.{_+_, _-_, _*_, _/_, _%_, _^_, _≤_, _<_};
 ghost use lib.Dec.{eqb};
@@ -8,7 +9,9 @@ ghost use lib.ListN.{length};
 ghost use Rattle.numbers.specs.Pick.{pick};
 ghost use Rattle.slots.specs.Slots.{slotOf};
 ghost use Rattle.block.specs.Record.{Placed};
-ghost use Rattle.rules.specs.Span.{starts, heldAt, heldOf};
+ghost use Rattle.state.specs.Table.{blockAt};
+ghost use Rattle.rules.specs.Turn.{unitOf};
+ghost use Rattle.rules.specs.Span.{starts, heldAt, heldOf, heldIn};
 ghost use Rattle.spans.specs.Within.{Within};
 
 // A span starts at a used unit that is unit 0, or behind a free one, or behind one with a stop bit.
@@ -45,7 +48,7 @@ fn held_at(used: &[u32], stop: &[u32], area: u32, unit: u32) -> Held
 }
 
 // What stands at an address of a block whose units have `unit` bytes.
-pub fn held_in(b: Block, used: &[u32], stop: &[u32], w: usize, unit: u64, address: u64) -> Held
+fn held_of(b: Block, used: &[u32], stop: &[u32], w: usize, unit: u64, address: u64) -> Held
     requires { ⌜ Placed b w (length (now used)) (length (now stop)) × Within b unit address ⌝ }
     ensures { λ r. ⌜ r ≡ heldOf w b unit (now (used .entry)) (now (stop .entry)) address ⌝ }
 {
@@ -58,4 +61,14 @@ pub fn held_in(b: Block, used: &[u32], stop: &[u32], w: usize, unit: u64, addres
     let mine = slots::slot(used, slot, w);
     let ends = slots::slot(stop, slot, w);
     held_at(mine, ends, b.area, at)
+}
+
+// What stands at an address of the block of age `j`.
+pub fn held_in(s: State, used: &[u32], stop: &[u32], j: usize, address: u64) -> Held
+    requires { ⌜ (j < 64) × (blockAt s j .pool < 3) × Placed (blockAt s j) (s .w) (length (now used)) (length (now stop)) × Within (blockAt s j) (unitOf s (blockAt s j)) address ⌝ }
+    ensures { λ r. ⌜ r ≡ heldIn s (now (used .entry)) (now (stop .entry)) address j ⌝ }
+{
+    let b = entry::block_at(s, j);
+    let pool = entry::pool_at(s, b.pool);
+    held_of(b, used, stop, s.w, pool.granularity, address)
 }

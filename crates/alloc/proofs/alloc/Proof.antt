@@ -32,12 +32,6 @@ sized : (c : tie.After-round-size) (r : Rounded) → c .round-size .result ≡ r
 unfolding allocTurn
 sized c r e = let a = c .before .before .before .before .before .args in ap (sizeTurn (a .s) (a .used .now) (a .stop .now)) (sym e ∙ c .round-size .ensures) ∙ rw (good (c .before))
 
-shape-ok-requires : tie.Need-shape-ok-requires
-shape-ok-requires c κs = search needs
-
-refused-requires : tie.Need-refused-requires
-refused-requires c κs = search needs
-
 returns : tie.Need-returns
 unfolding allocTurn
 returns c =
@@ -48,30 +42,12 @@ returns c =
 round-size-requires : tie.Need-round-size-requires
 round-size-requires c κs = omega (arith, shaped c .head .g-low)
 
-enum-known-rounded : tie.Need-enum-known-rounded
-enum-known-rounded c = search needs
-
 alloc-rounded-requires : tie.Need-alloc-rounded-requires
 alloc-rounded-requires c κs =
     let a = c .before .before .before .before .before .before .before .before .before .before .args in
     let f = shaped (c .before .before .before .before .before .before) in
     let q = rounded-to-granularity (a .size) (a .s .g) (c .before .before .before .rounded .given .0 .0) (g-good (a .s .g) (f .head .g-listed)) (c .before .before .before .before .before .before .before .before .before .before .good .1 .1 .1 .0 .1) (sym (c .before .before .before .before .before .round-size .ensures) ∙ c .before .before .before .rounded .given .1) in
     record { shaped = f; some = q .some; most = q .small; even = q .whole }
-
-enum-known-rounded-2 : tie.Need-enum-known-rounded-2
-enum-known-rounded-2 c = search needs
-
-size-refusal-requires : tie.Need-size-refusal-requires
-size-refusal-requires c κs = search needs
-
-refused-requires-2 : tie.Need-refused-requires-2
-refused-requires-2 c κs = search needs
-
-same-length : tie.Need-same-length
-same-length c = search needs
-
-same-length-2 : tie.Need-same-length-2
-same-length-2 c = search needs
 
 returns-2 : tie.Need-returns-2
 returns-2 c = c .before .before .before .before .alloc-rounded .ensures ∙ sized (c .before .before .before .before .before .before .before .before .before .before) _ (c .before .before .before .before .before .before .before .before .rounded .given .1)
@@ -83,6 +59,30 @@ returns-3 c =
     ∙ ap (λ (why : Refusal). refuse why (a .s) (a .used .now) (a .stop .now)) (c .before .size-refusal .ensures)
     ∙ sized (c .before .before .before .before .before) _ (c .before .before .before .rounded2 .given .1)
 
+shape-ok-requires : tie.Need-shape-ok-requires
+shape-ok-requires c κs = search needs
+
+refused-requires : tie.Need-refused-requires
+refused-requires c κs = search needs
+
+enum-known-rounded : tie.Need-enum-known-rounded
+enum-known-rounded c = search needs
+
+same-length : tie.Need-same-length
+same-length c = search needs
+
+same-length-2 : tie.Need-same-length-2
+same-length-2 c = search needs
+
+enum-known-rounded-2 : tie.Need-enum-known-rounded-2
+enum-known-rounded-2 c = search needs
+
+size-refusal-requires : tie.Need-size-refusal-requires
+size-refusal-requires c κs = search needs
+
+refused-requires-2 : tie.Need-refused-requires-2
+refused-requires-2 c κs = search needs
+
 pub alloc-spec : {M : Type 1} → statement M
 alloc-spec =
     tie.close
@@ -93,10 +93,10 @@ alloc-spec =
     round-size-requires
     enum-known-rounded
     alloc-rounded-requires
-    enum-known-rounded-2
-    size-refusal-requires
-    refused-requires-2
     same-length
     same-length-2
     returns-2
+    enum-known-rounded-2
+    size-refusal-requires
+    refused-requires-2
     returns-3)

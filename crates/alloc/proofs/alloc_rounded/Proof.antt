@@ -77,9 +77,6 @@ search-pool-requires c κs =
       looked-into (a .t1) (length (a .used .now)) (length (a .stop .now)) (a .bytes) m,
     )
 
-enum-known-hit : tie.Need-enum-known-hit
-enum-known-hit c = search needs
-
 mark-span-requires : tie.Need-mark-span-requires
 mark-span-requires c κs =
     let a = c .before .before .before .before .before .before .before .before .before .before .before .before .before .args in
@@ -94,9 +91,6 @@ mark-span-requires c κs =
     let place = subst (Place (a .used .now) lt p n pos st) (c .before .before .before .hit .given .1) (left (c .before .before .before .before .before .before) .place) in
     hit-ready st lu lt (left (c .before .before .before .before .before .before) .shaped) j (c .before .before .before .hit .given .0 .1 .0) (c .before .before .before .before .before .before .before .before .area-size-from-byte-size .result) (place .0)
     (subst (λ (k : ℕ). Fits (blockAt st j) k (c .before .before .before .hit .given .0 .1 .0)) (sym (units-are (c .before .before .before .before .before .before .before .before))) (place .2)) (omega (arith, units-are (c .before .before .before .before .before .before .before .before), pos))
-
-enum-told : tie.Need-enum-told
-enum-told c = search needs
 
 newest-size-requires : tie.Need-newest-size-requires
 newest-size-requires c κs = let a = c .before .before .before .before .before .before .before .before .before .before .args in count-64 (c .before .before .before .search-pool .result .state) (length (a .used .now)) (length (a .stop .now)) (left (c .before .before .before) .shaped)
@@ -131,12 +125,6 @@ new-span-requires c κs =
     (omega (arith, c .before .before .before .before .before .before .before .before .before .before .before .size-to-pool-id .ensures, pool-in (a .t1) lu lt (a .bytes) m)) (omega (arith, units-are (c .before .before .before .before .before .before .before .before .before), pos)) (m .some) (m .most)
     (units-kept (a .t1) st (left (c .before .before .before .before .before .before .before) .pools) q p (c .before .before .before .before .before .before .before .before .before .area-size-from-byte-size .result) n (a .bytes) (c .before .before .before .before .before .before .before .before .before .before .before .size-to-pool-id .ensures) (units-are (c .before .before .before .before .before .before .before .before .before)) (whole (a .t1) lu lt (a .bytes) m)))
 
-same-length : tie.Need-same-length
-same-length c = search needs
-
-same-length-2 : tie.Need-same-length-2
-same-length-2 c = search needs
-
 returns : tie.Need-returns
 returns c =
     let a = c .before .before .before .before .before .before .before .before .before .before .before .before .before .before .before .before .before .before .args in
@@ -152,12 +140,6 @@ returns c =
     c .before .before .before .before .mark-span .ensures ∙ ap (λ (k : ℕ). markTurn st (a .used .now) (a .stop .now) j i k) (units-are (c .before .before .before .before .before .before .before .before .before .before .before .before .before))
     ∙ ap (searchedTurn st (a .used .now) (a .stop .now) p n (a .bytes)) (sym (c .before .before .before .before .before .before .before .before .hit .given .1))
     ∙ ap (λ (x : Searched). searchedTurn (x .state) (a .used .now) (a .stop .now) p n (a .bytes) (x .hit)) (found-is (c .before .before .before .before .before .before .before .before .before .before .before))
-
-same-length-3 : tie.Need-same-length-3
-same-length-3 c = search needs
-
-same-length-4 : tie.Need-same-length-4
-same-length-4 c = search needs
 
 returns-2 : tie.Need-returns-2
 returns-2 c =
@@ -176,6 +158,24 @@ returns-2 c =
     ∙ ap (searchedTurn st (a .used .now) (a .stop .now) p n (a .bytes)) (sym (c .before .before .before .before .before .before .before .before .before .enum-told .given .1))
     ∙ ap (λ (x : Searched). searchedTurn (x .state) (a .used .now) (a .stop .now) p n (a .bytes) (x .hit)) (found-is (c .before .before .before .before .before .before .before .before .before .before .before .before))
 
+enum-known-hit : tie.Need-enum-known-hit
+enum-known-hit c = search needs
+
+same-length : tie.Need-same-length
+same-length c = search needs
+
+same-length-2 : tie.Need-same-length-2
+same-length-2 c = search needs
+
+enum-told : tie.Need-enum-told
+enum-told c = search needs
+
+same-length-3 : tie.Need-same-length-3
+same-length-3 c = search needs
+
+same-length-4 : tie.Need-same-length-4
+same-length-4 c = search needs
+
 pub alloc-rounded-spec : {M : Type 1} → statement M
 alloc-rounded-spec =
     tie.close
@@ -187,13 +187,13 @@ alloc-rounded-spec =
     search-pool-requires
     enum-known-hit
     mark-span-requires
+    same-length
+    same-length-2
+    returns
     enum-told
     newest-size-requires
     calculate-ideal-block-size-requires
     new-span-requires
-    same-length
-    same-length-2
-    returns
     same-length-3
     same-length-4
     returns-2)
