@@ -1,3 +1,1 @@
-pub mod Decimal
 pub mod Lines
-pub mod Put

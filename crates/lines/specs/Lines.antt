@@ -1,12 +1,12 @@
 -- Document 01, The trace: the lines, byte by byte. Assumes nothing.
 use Prim.Native.Nat.{ℕ, _+_}
-use mathlib.Core.List.{List, [], _∷_, _++_}
+use mathlib.Core.List.{List, [], _∷_}
 use Rattle.state.specs.declared.State.{State}
 use Rattle.state.specs.declared.Answer.{Answer}
 use Rattle.state.specs.declared.Answer.the-variants.{Created, Granted, Released, Shrunk, Shown, Reset, Refused}
 use Rattle.state.specs.Table.{poolAt}
 use Rattle.rules.specs.Turn.{number}
-use Rattle.lines.specs.Decimal.{decimal}
+use Rattle.text.specs.Line.{line}
 
 -- ---- the answer words, as spelled in document 01
 abbrev pub created : List ℕ
@@ -32,14 +32,6 @@ bad = 98 ∷ 97 ∷ 100 ∷ []
 
 abbrev pub ended : List ℕ
 ended = 101 ∷ 110 ∷ 100 ∷ []
-
--- ---- a line: a word, each number behind one space, and a line feed
-abbrev pub spaced : List ℕ → List ℕ
-spaced [] = []
-spaced (n ∷ ns) = (32 ∷ decimal n) ++ spaced ns
-
-abbrev pub line : List ℕ → List ℕ → List ℕ
-line word ns = word ++ (spaced ns ++ (10 ∷ []))
 
 -- ---- the lines of the calls; a granted query is written as an allocation is
 unfoldable pub answerLine : Answer → List ℕ

@@ -60,7 +60,7 @@ pub fn play(s: State, used: &mut [u32], stop: &mut [u32], bytes: &[u8], out: &mu
     let mut state = s;
     let mut taken: usize = 0;
     let mut written: usize = 0;
-    let mut left = out.len() / lines::LINE;
+    let mut left = out.len() / text::LINE;
     while 0 < left {
         let found = records::read(&bytes[taken..]);
         match found {
@@ -103,7 +103,7 @@ pub fn finish(s: State, offset: u64, left: usize, out: &mut [u8]) -> usize
     ensures { λ r. ⌜ Finishes s offset left (now (out .entry)) (now (out .exit)) r ⌝ }
     ensures { λ r. ⌜ r ≤ length (now (out .entry)) ⌝ }
 {
-    if out.len() < lines::LINE {
+    if out.len() < text::LINE {
         return 0;
     }
     if left == 0 {

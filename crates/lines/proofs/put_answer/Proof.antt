@@ -2,8 +2,9 @@ use Prim.Native.Nat.{ℕ}
 use mathlib.Core.List.{List, [], _∷_}
 use mathlib.Core.Path.{_≡_, refl, sym, ap, subst, _∙_}
 use Rattle.state.specs.declared.Answer.{Answer}
-use Rattle.lines.specs.Lines.{refused, line, answerLine}
-use Rattle.lines.specs.Put.{Puts}
+use Rattle.text.specs.Line.{line}
+use Rattle.lines.specs.Lines.{refused, answerLine}
+use Rattle.text.specs.Put.{Puts}
 use borrow.Author.Needs.{needs}
 use Rattle.lines.proofs.put_answer.Statement.{statement}
 use Rattle.lines.proofs.put_answer.Tie as tie

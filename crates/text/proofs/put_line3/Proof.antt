@@ -1,7 +1,7 @@
-use Rattle.lines.proofs.Lines.{line3}
+use Rattle.text.proofs.Line.{line3}
 use borrow.Author.Needs.{needs}
-use Rattle.lines.proofs.put_line3.Statement.{statement}
-use Rattle.lines.proofs.put_line3.Tie as tie
+use Rattle.text.proofs.put_line3.Statement.{statement}
+use Rattle.text.proofs.put_line3.Tie as tie
 
 put-bytes-requires : tie.Need-put-bytes-requires
 put-bytes-requires c κs = search needs

@@ -1,11 +1,11 @@
 use mathlib.Core.List.{List, [], _∷_}
 use mathlib.Core.Path.{_≡_, refl, sym, ap, subst, _∙_}
 use native.Mathlib.Omega.{arith}
-use Rattle.lines.specs.Put.{Puts}
-use Rattle.lines.proofs.Put.{join}
+use Rattle.text.specs.Put.{Puts}
+use Rattle.text.proofs.Put.{join}
 use borrow.Author.Needs.{needs}
-use Rattle.lines.proofs.put_line0.Statement.{statement}
-use Rattle.lines.proofs.put_line0.Tie as tie
+use Rattle.text.proofs.put_line0.Statement.{statement}
+use Rattle.text.proofs.put_line0.Tie as tie
 
 put-bytes-requires : tie.Need-put-bytes-requires
 put-bytes-requires c κs = search needs

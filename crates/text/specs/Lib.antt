@@ -1,0 +1,3 @@
+pub mod Decimal
+pub mod Line
+pub mod Put
