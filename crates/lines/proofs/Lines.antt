@@ -6,7 +6,7 @@ use Rattle.state.specs.declared.State.{State}
 use Rattle.state.specs.declared.Answer.{Answer}
 use Rattle.state.specs.declared.Answer.the-variants.{Created, Granted, Released, Shrunk, Shown, Reset, Refused}
 use Rattle.rules.specs.Turn.{number}
-use Rattle.text.proofs.Digits.{most}
+use Rattle.put.proofs.Digits.{most}
 use Rattle.lines.specs.Lines.{answerLine, usedUnits, endLine, badLine}
 
 pub answer-most : (a : Answer) → length (answerLine a) ≤ 80

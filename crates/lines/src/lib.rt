@@ -9,7 +9,7 @@ ghost use Prim.Native.Nat.{_+_, _≤_, _<_};
 ghost use lib.ListN.{length};
 ghost use Rattle.rules.specs.Turn.{number};
 ghost use Rattle.text.specs.Line.{line};
-ghost use Rattle.text.specs.Put.{Puts};
+ghost use Rattle.put.specs.Put.{Puts};
 ghost use Rattle.lines.specs.Lines.{span, answerLine, usedUnits, endLine, badLine};
 
 fn refusal_number(why: Refusal) -> u64

@@ -1,3 +1,1 @@
-pub mod Decimal
 pub mod Line
-pub mod Put

@@ -15,8 +15,8 @@ use Rattle.records.specs.declared.Record.{Record}
 use Rattle.records.specs.declared.Record.the-variants.{Cut, Bad, Whole}
 use Rattle.records.specs.Records.{recordOf}
 use Rattle.lines.specs.Lines.{answerLine}
-use Rattle.text.specs.Put.{Puts}
-use Rattle.text.proofs.Put.{join}
+use Rattle.put.specs.Put.{Puts}
+use Rattle.put.proofs.Put.{join}
 use Rattle.lines.proofs.Lines.{answer-most}
 use Rattle.records.proofs.Ways.{whole-size}
 use Rattle.trace.specs.Play.{callBy, Run, stopped, behind, afterRecord, play, Leaves}

@@ -7,7 +7,7 @@ use Rattle.numbers.specs.Pick.{pick}
 use Rattle.state.specs.declared.State.{State}
 use Rattle.state.specs.Table.{zeroState}
 use Rattle.lines.specs.Lines.{endLine, badLine}
-use Rattle.text.specs.Put.{Puts}
+use Rattle.put.specs.Put.{Puts}
 use Rattle.trace.specs.Play.{Run, play}
 
 -- where nothing is left, `end`; otherwise what is left starts with a cut or a wrong record: `bad`, with its offset

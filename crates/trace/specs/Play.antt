@@ -15,7 +15,7 @@ use Rattle.records.specs.declared.Record.{Record}
 use Rattle.records.specs.declared.Record.the-variants.{Cut, Bad, Whole}
 use Rattle.records.specs.Records.{recordOf}
 use Rattle.lines.specs.Lines.{answerLine}
-use Rattle.text.specs.Put.{Puts}
+use Rattle.put.specs.Put.{Puts}
 
 -- ---- a record's call, as the machine's
 abbrev pub askedBy : read.Asked → Asked

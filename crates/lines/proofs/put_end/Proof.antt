@@ -3,7 +3,7 @@ use mathlib.Core.List.{[], _∷_}
 use mathlib.Core.Path.{subst}
 use Rattle.text.specs.Line.{line}
 use Rattle.lines.specs.Lines.{ended, endLine}
-use Rattle.text.specs.Put.{Puts}
+use Rattle.put.specs.Put.{Puts}
 use borrow.Author.Needs.{needs}
 use Rattle.lines.proofs.put_end.Statement.{statement}
 use Rattle.lines.proofs.put_end.Tie as tie

@@ -1,8 +1,8 @@
 use mathlib.Core.List.{List, [], _∷_}
 use mathlib.Core.Path.{_≡_, refl, sym, ap, subst, _∙_}
 use native.Mathlib.Omega.{arith}
-use Rattle.text.specs.Put.{Puts}
-use Rattle.text.proofs.Put.{join}
+use Rattle.put.specs.Put.{Puts}
+use Rattle.put.proofs.Put.{join}
 use borrow.Author.Needs.{needs}
 use Rattle.text.proofs.put_line0.Statement.{statement}
 use Rattle.text.proofs.put_line0.Tie as tie

@@ -5,7 +5,7 @@ use borrow.Author.Tests.{lt-ltb, le-ltb, eq-eqb, ne-eqb}
 use lib.ListN.{length}
 use denote.Ref.{now}
 use native.Mathlib.Omega.{arith}
-use Rattle.text.specs.Put.{Puts}
+use Rattle.put.specs.Put.{Puts}
 use Rattle.lines.proofs.Lines.{end-most, bad-most}
 use borrow.Author.Needs.{needs}
 use Rattle.trace.proofs.finish.Statement.{statement}

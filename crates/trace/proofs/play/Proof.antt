@@ -7,7 +7,7 @@ use lib.ListN.{length, take, drop, length-drop}
 use lib.Seq.{take-all}
 use Rattle.rules.specs.Turn.{turn}
 use Rattle.records.specs.Records.{recordOf}
-use Rattle.text.proofs.Put.{size}
+use Rattle.put.proofs.Put.{size}
 use Rattle.records.proofs.Ways.{whole-size}
 use Rattle.trace.specs.Play.{play}
 use Rattle.trace.proofs.Going.{Going, start, no-room, cut, wrong, one-more}

@@ -7,7 +7,7 @@ use native.Mathlib.Numerals.{add-one}
 use native.Mathlib.Omega.{arith}
 use lib.ListN.{length, take, getD, length-append}
 use lib.Seq.{sets, length-sets, take-suc}
-use Rattle.text.specs.Put.{Puts}
+use Rattle.put.specs.Put.{Puts}
 
 pub sets-append : (bs cs l : List ℕ) (i : ℕ) → sets (sets l i bs) (i + length bs) cs ≡ sets l i (bs ++ cs)
 sets-append [] cs l i = ap (λ (k : ℕ). sets l k cs) (add-zero i)

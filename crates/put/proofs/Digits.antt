@@ -9,7 +9,7 @@ use borrow.Author.Tests.{lt-ltb, le-ltb}
 use lib.Dec.{ltb}
 use lib.ListN.{length, length-append}
 use Rattle.numbers.specs.Pick.{pick}
-use Rattle.text.specs.Decimal.{digit, digits, decimal}
+use Rattle.put.specs.Decimal.{digit, digits, decimal}
 
 either : (b : Bool) (n k : ℕ) (d : List ℕ) → length d ≤ k → length (pick b (digit n ∷ []) (d ++ (digit (n % 10) ∷ []))) ≤ suc k
 either true n k d h = omega arith

@@ -1,12 +1,12 @@
 use mathlib.Core.List.{List, [], _∷_}
 use mathlib.Core.Path.{_≡_, refl, sym, ap, subst, _∙_}
 use native.Mathlib.Omega.{arith}
-use Rattle.text.specs.Put.{Puts}
-use Rattle.text.proofs.Put.{join}
-use Rattle.text.proofs.Digits.{most}
+use Rattle.put.specs.Put.{Puts}
+use Rattle.put.proofs.Put.{join}
+use Rattle.put.proofs.Digits.{most}
 use borrow.Author.Needs.{needs}
-use Rattle.text.proofs.put_number.Statement.{statement}
-use Rattle.text.proofs.put_number.Tie as tie
+use Rattle.put.proofs.put_number.Statement.{statement}
+use Rattle.put.proofs.put_number.Tie as tie
 
 put-byte-requires : tie.Need-put-byte-requires
 put-byte-requires c κs = search needs

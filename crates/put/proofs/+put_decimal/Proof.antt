@@ -4,19 +4,19 @@ use native.Mathlib.Nat.{div-lt-self, mod-lt}
 use native.Mathlib.Omega.{arith}
 use borrow.Author.Needs.{needs}
 use lib.ListN.{length}
-use Rattle.text.specs.Decimal.{digit, decimal}
-use Rattle.text.specs.Put.{Puts}
-use Rattle.text.proofs.Put.{size, join}
-use Rattle.text.proofs.Digits.{few, more, tenth-most}
+use Rattle.put.specs.Decimal.{digit, decimal}
+use Rattle.put.specs.Put.{Puts}
+use Rattle.put.proofs.Put.{size, join}
+use Rattle.put.proofs.Digits.{few, more, tenth-most}
 use Prim.Native.Nat.{ℕ, _<_}
 use borrow.Fn.Kinds.{In}
 use borrow.Fn.PlainCycle.{Measures, is, falls, and}
-use Rattle.text.proofs.put_decimal.Reads as put-decimal
-use Rattle.text.proofs.put_decimal.Kinds as put-decimal-kinds
-use Rattle.text.proofs.+put_decimal.Lts-put_decimal as put-decimal-lts
-use Rattle.text.proofs.put_byte.Reads as put-byte-reads
-use Rattle.text.proofs.+put_decimal.{statement}
-use Rattle.text.proofs.+put_decimal.Tie.{close}
+use Rattle.put.proofs.put_decimal.Reads as put-decimal
+use Rattle.put.proofs.put_decimal.Kinds as put-decimal-kinds
+use Rattle.put.proofs.+put_decimal.Lts-put_decimal as put-decimal-lts
+use Rattle.put.proofs.put_byte.Reads as put-byte-reads
+use Rattle.put.proofs.+put_decimal.{statement}
+use Rattle.put.proofs.+put_decimal.Tie.{close}
 
 abbrev μ-put-decimal : Measures 1 put-decimal-kinds.ps ℕ
 μ-put-decimal κs a = a .1 .1 .0
