@@ -1,13 +1,12 @@
--- Every line fits the room that it is given. Assumes nothing.
-use Prim.Native.Nat.{ℕ, _≤_}
+-- Every line of a call fits the room that it is given. Assumes nothing.
+use Prim.Native.Nat.{_≤_}
 use native.Mathlib.Omega.{arith}
 use lib.ListN.{length, length-append}
-use Rattle.state.specs.declared.State.{State}
 use Rattle.state.specs.declared.Answer.{Answer}
 use Rattle.state.specs.declared.Answer.the-variants.{Created, Granted, Released, Shrunk, Shown, Reset, Refused}
 use Rattle.rules.specs.Turn.{number}
 use Rattle.put.proofs.Digits.{most}
-use Rattle.lines.specs.Lines.{answerLine, usedUnits, endLine, badLine}
+use Rattle.lines.specs.Lines.{answerLine}
 
 pub answer-most : (a : Answer) → length (answerLine a) ≤ 80
 unfolding answerLine
@@ -18,11 +17,3 @@ answer-most (Released x) = simp length-append (omega (arith, most (x .address), 
 answer-most (Shrunk x) = simp length-append (omega (arith, most (x .address), most (x .size)))
 answer-most Reset = omega arith
 answer-most (Refused why) = simp length-append (omega (arith, most (number why)))
-
-pub end-most : (s : State) → length (endLine s) ≤ 80
-unfolding endLine
-end-most s = simp length-append (omega (arith, most (s .live), most (s .count), most (usedUnits s)))
-
-pub bad-most : (offset : ℕ) → length (badLine offset) ≤ 80
-unfolding badLine
-bad-most offset = simp length-append (omega (arith, most offset))

@@ -1,10 +1,8 @@
--- Document 01, The trace: the lines, byte by byte. Assumes nothing.
-use Prim.Native.Nat.{ℕ, _+_}
+-- Document 01, The trace: the calls' lines, byte by byte. Assumes nothing.
+use Prim.Native.Nat.{ℕ}
 use mathlib.Core.List.{List, [], _∷_}
-use Rattle.state.specs.declared.State.{State}
 use Rattle.state.specs.declared.Answer.{Answer}
 use Rattle.state.specs.declared.Answer.the-variants.{Created, Granted, Released, Shrunk, Shown, Reset, Refused}
-use Rattle.state.specs.Table.{poolAt}
 use Rattle.rules.specs.Turn.{number}
 use Rattle.text.specs.Line.{line}
 
@@ -27,12 +25,6 @@ reset = 114 ∷ 101 ∷ 115 ∷ 101 ∷ 116 ∷ []
 abbrev pub refused : List ℕ
 refused = 114 ∷ 101 ∷ 102 ∷ 117 ∷ 115 ∷ 101 ∷ 100 ∷ []
 
-abbrev pub bad : List ℕ
-bad = 98 ∷ 97 ∷ 100 ∷ []
-
-abbrev pub ended : List ℕ
-ended = 101 ∷ 110 ∷ 100 ∷ []
-
 -- ---- the lines of the calls; a granted query is written as an allocation is
 unfoldable pub answerLine : Answer → List ℕ
 answerLine (Created size g pools) = line created (size ∷ g ∷ pools ∷ [])
@@ -42,13 +34,3 @@ answerLine (Released x) = line released (x .address ∷ x .size ∷ [])
 answerLine (Shrunk x) = line shrunk (x .address ∷ x .size ∷ [])
 answerLine Reset = line reset []
 answerLine (Refused why) = line refused (number why ∷ [])
-
--- ---- the last line: live spans, blocks and used units; or a bad record's byte offset
-abbrev pub usedUnits : State → ℕ
-usedUnits s = poolAt s 0 .used + poolAt s 1 .used + poolAt s 2 .used
-
-unfoldable pub endLine : State → List ℕ
-endLine s = line ended (s .live ∷ s .count ∷ usedUnits s ∷ [])
-
-unfoldable pub badLine : ℕ → List ℕ
-badLine offset = line bad (offset ∷ [])

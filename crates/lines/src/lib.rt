@@ -2,7 +2,6 @@
 use state::Answer;
 use state::Refusal;
 use state::Span;
-use state::State;
 ghost use mathlib.Core.Path.{_≡_};
 ghost use mathlib.Core.List.{[], _∷_};
 ghost use Prim.Native.Nat.{_+_, _≤_, _<_};
@@ -10,7 +9,7 @@ ghost use lib.ListN.{length};
 ghost use Rattle.rules.specs.Turn.{number};
 ghost use Rattle.text.specs.Line.{line};
 ghost use Rattle.put.specs.Put.{Puts};
-ghost use Rattle.lines.specs.Lines.{span, answerLine, usedUnits, endLine, badLine};
+ghost use Rattle.lines.specs.Lines.{span, answerLine};
 
 fn refusal_number(why: Refusal) -> u64
     ensures { λ r. ⌜ r ≡ number why ⌝ }
@@ -61,30 +60,4 @@ fn put_granted(out: &mut [u8], at: usize, x: Span) -> usize
     ensures { λ r. ⌜ Puts (now (out .entry)) at (line span (x .address ∷ x .size ∷ [])) (now (out .exit)) r ⌝ }
 {
     put_span(out, at, b"span", x)
-}
-
-fn used_units(s: State) -> u64
-    ensures { λ r. ⌜ r ≡ usedUnits s ⌝ }
-{
-    let a = s.pool[0];
-    let b = s.pool[1];
-    let c = s.pool[2];
-    a.used as u64 + b.used as u64 + c.used as u64
-}
-
-// The last line of a trace whose records are all good.
-pub fn put_end(out: &mut [u8], at: usize, s: State) -> usize
-    requires { ⌜ at + 80 ≤ length (now out) ⌝ }
-    ensures { λ r. ⌜ Puts (now (out .entry)) at (endLine s) (now (out .exit)) r ⌝ }
-{
-    let units = used_units(s);
-    text::put_line3(out, at, b"end", s.live, s.count as u64, units)
-}
-
-// The last line of a trace with a bad record at an offset.
-pub fn put_bad(out: &mut [u8], at: usize, offset: u64) -> usize
-    requires { ⌜ at + 80 ≤ length (now out) ⌝ }
-    ensures { λ r. ⌜ Puts (now (out .entry)) at (badLine offset) (now (out .exit)) r ⌝ }
-{
-    text::put_line1(out, at, b"bad", offset)
 }

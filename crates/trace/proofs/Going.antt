@@ -19,7 +19,8 @@ use Rattle.put.specs.Put.{Puts}
 use Rattle.put.proofs.Put.{join}
 use Rattle.lines.proofs.Lines.{answer-most}
 use Rattle.records.proofs.Ways.{whole-size}
-use Rattle.trace.specs.Play.{callBy, Run, stopped, behind, afterRecord, play, Leaves}
+use Rattle.calls.specs.Calls.{callBy}
+use Rattle.trace.specs.Play.{Run, stopped, behind, afterRecord, play, Leaves}
 
 -- so many records are left of a whole run over bs
 pub record Going (all : Run) (bs before : List ℕ) (left : ℕ) (s : State) (u t : List ℕ) (taken : ℕ) (out : List ℕ) (written : ℕ) : Type 0 where

@@ -1,5 +1,1 @@
-pub mod Calls
 pub mod Going
-pub mod Whole
-pub mod Pieces
-pub mod Sessions

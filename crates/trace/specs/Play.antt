@@ -6,29 +6,13 @@ use mathlib.Core.Path.{_≡_}
 use lib.ListN.{drop}
 use Rattle.state.specs.declared.State.{State}
 use Rattle.rules.specs.Turn.{Turn}
-use Rattle.rules.specs.Create.{Asked}
 use Rattle.rules.specs.Machine as machine
-use Rattle.records.specs.declared.Asked as read
-use Rattle.records.specs.declared.Call.{Call}
-use Rattle.records.specs.declared.Call.the-variants.{Create, Alloc, Release, Shrink, Query, SoftReset, HardReset}
 use Rattle.records.specs.declared.Record.{Record}
 use Rattle.records.specs.declared.Record.the-variants.{Cut, Bad, Whole}
 use Rattle.records.specs.Records.{recordOf}
+use Rattle.calls.specs.Calls.{callBy}
 use Rattle.lines.specs.Lines.{answerLine}
 use Rattle.put.specs.Put.{Puts}
-
--- ---- a record's call, as the machine's
-abbrev pub askedBy : read.Asked → Asked
-askedBy a = record { size = a .size; g = a .g; flags = a .flags; w = a .w; arena = a .arena; length = a .length }
-
-abbrev pub callBy : Call → machine.Call
-callBy (Create a) = machine.create (askedBy a)
-callBy (Alloc size) = machine.alloc size
-callBy (Release a) = machine.release a
-callBy (Shrink a size) = machine.shrink a size
-callBy (Query a) = machine.query a
-callBy SoftReset = machine.softReset
-callBy HardReset = machine.hardReset
 
 -- ---- what so many records come to: the record of the allocator and the maps, the bytes taken, the lines, and whether a bad record stands behind
 pub record Run : Type 0 where

@@ -14,8 +14,9 @@ use Rattle.records.specs.declared.Record.the-variants.{Cut, Bad, Whole}
 use Rattle.records.specs.Records.{recordOf}
 use Rattle.records.proofs.Ways.{no-head, whole-size}
 use Rattle.lines.specs.Lines.{answerLine}
-use Rattle.trace.specs.Play.{callBy, Run, behind, afterRecord, play}
-use Rattle.trace.specs.Output.{whole, output}
+use Rattle.calls.specs.Calls.{callBy}
+use Rattle.trace.specs.Play.{Run, behind, afterRecord, play}
+use Rattle.sessions.specs.Output.{whole, output}
 
 next : (k : ℕ) (s : State) (u t bs : List ℕ) (r : Record) → recordOf bs ≡ r → length bs ≤ suc k
     → ((s : State) (u t ds : List ℕ) → length ds ≤ k → play (suc k) s u t ds ≡ play k s u t ds)

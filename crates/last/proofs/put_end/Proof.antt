@@ -2,11 +2,11 @@ use Prim.Native.Nat.{ℕ}
 use mathlib.Core.List.{[], _∷_}
 use mathlib.Core.Path.{subst}
 use Rattle.text.specs.Line.{line}
-use Rattle.lines.specs.Lines.{ended, endLine}
+use Rattle.last.specs.Last.{ended, endLine}
 use Rattle.put.specs.Put.{Puts}
 use borrow.Author.Needs.{needs}
-use Rattle.lines.proofs.put_end.Statement.{statement}
-use Rattle.lines.proofs.put_end.Tie as tie
+use Rattle.last.proofs.put_end.Statement.{statement}
+use Rattle.last.proofs.put_end.Tie as tie
 
 used-units-requires : tie.Need-used-units-requires
 used-units-requires c κs = search needs

@@ -6,10 +6,10 @@ use lib.ListN.{length}
 use denote.Ref.{now}
 use native.Mathlib.Omega.{arith}
 use Rattle.put.specs.Put.{Puts}
-use Rattle.lines.proofs.Lines.{end-most, bad-most}
+use Rattle.last.proofs.Last.{end-most, bad-most}
 use borrow.Author.Needs.{needs}
-use Rattle.trace.proofs.finish.Statement.{statement}
-use Rattle.trace.proofs.finish.Tie as tie
+use Rattle.last.proofs.finish.Statement.{statement}
+use Rattle.last.proofs.finish.Tie as tie
 
 returns : tie.Need-returns
 returns c = (rw (lt-ltb (length (now (c .before .before .args .out))) 80 (c .if1 .taken)) (record { place = refl; whole = refl }), omega arith)

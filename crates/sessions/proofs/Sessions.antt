@@ -17,11 +17,12 @@ use Rattle.records.specs.declared.Record.the-variants.{Cut, Bad, Whole}
 use Rattle.records.specs.Records.{recordOf}
 use Rattle.records.proofs.Ways.{no-head, whole-size}
 use Rattle.records.proofs.More.{Not-cut, record-more}
-use Rattle.lines.specs.Lines.{endLine, badLine}
-use Rattle.trace.specs.Play.{callBy, Run, stopped, afterRecord, play}
-use Rattle.trace.specs.Output.{lastLine, output}
-use Rattle.trace.proofs.Whole.{enough}
-use Rattle.trace.proofs.Pieces.{all, then, pieces}
+use Rattle.last.specs.Last.{endLine, badLine, lastLine}
+use Rattle.calls.specs.Calls.{callBy}
+use Rattle.trace.specs.Play.{Run, stopped, afterRecord, play}
+use Rattle.sessions.specs.Output.{output}
+use Rattle.sessions.proofs.Whole.{enough}
+use Rattle.sessions.proofs.Pieces.{all, then, pieces}
 
 -- what is written from a state and an offset on
 abbrev pub from : State → List ℕ → List ℕ → ℕ → List ℕ → List ℕ

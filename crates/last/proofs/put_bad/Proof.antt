@@ -1,7 +1,7 @@
-use Rattle.lines.specs.Lines.{badLine}
+use Rattle.last.specs.Last.{badLine}
 use borrow.Author.Needs.{needs}
-use Rattle.lines.proofs.put_bad.Statement.{statement}
-use Rattle.lines.proofs.put_bad.Tie as tie
+use Rattle.last.proofs.put_bad.Statement.{statement}
+use Rattle.last.proofs.put_bad.Tie as tie
 
 slice-aggregate-put-line1 : tie.Need-slice-aggregate-put-line1
 slice-aggregate-put-line1 c = search needs

@@ -14,9 +14,10 @@ use Rattle.records.specs.Records.{recordOf}
 use Rattle.records.proofs.Ways.{whole-size}
 use Rattle.records.proofs.More.{Not-cut, record-more}
 use Rattle.lines.specs.Lines.{answerLine}
-use Rattle.trace.specs.Play.{callBy, Run, behind, afterRecord, play}
+use Rattle.calls.specs.Calls.{callBy}
+use Rattle.trace.specs.Play.{Run, behind, afterRecord, play}
 use Rattle.trace.proofs.Going.{behind-none, behind-two, first}
-use Rattle.trace.proofs.Whole.{enough}
+use Rattle.sessions.proofs.Whole.{enough}
 
 -- all records of the bytes
 abbrev pub all : State → List ℕ → List ℕ → List ℕ → Run

@@ -4,11 +4,11 @@ use Rattle.rules.specs.Turn.{turn}
 use Rattle.rules.specs.Machine.{step}
 use Rattle.state.specs.declared.Answer.{Answer}
 use Rattle.records.specs.declared.Call.{Call}
-use Rattle.trace.specs.Play.{callBy}
-use Rattle.trace.proofs.Calls.{query-still}
+use Rattle.calls.specs.Calls.{callBy}
+use Rattle.calls.proofs.Calls.{query-still}
 use borrow.Author.Needs.{needs}
-use Rattle.trace.proofs.call.Statement.{statement}
-use Rattle.trace.proofs.call.Tie as tie
+use Rattle.calls.proofs.call.Statement.{statement}
+use Rattle.calls.proofs.call.Tie as tie
 
 enum-known-c : tie.Need-enum-known-c
 enum-known-c c = search needs

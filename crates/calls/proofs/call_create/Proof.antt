@@ -3,11 +3,11 @@ use denote.Ref.{now}
 use Rattle.rules.specs.Turn.{Turn, turn}
 use Rattle.rules.specs.Create.{createTurn}
 use Rattle.rules.specs.Machine.{orBefore}
-use Rattle.trace.specs.Play.{askedBy}
-use Rattle.trace.proofs.Calls.{refused-keeps, granted-goes}
+use Rattle.calls.specs.Calls.{askedBy}
+use Rattle.calls.proofs.Calls.{refused-keeps, granted-goes}
 use borrow.Author.Needs.{needs}
-use Rattle.trace.proofs.call_create.Statement.{statement}
-use Rattle.trace.proofs.call_create.Tie as tie
+use Rattle.calls.proofs.call_create.Statement.{statement}
+use Rattle.calls.proofs.call_create.Tie as tie
 
 create-requires : tie.Need-create-requires
 create-requires c κs = search needs

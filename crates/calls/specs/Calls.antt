@@ -1,0 +1,18 @@
+-- A record's call, as the machine's. Assumes nothing.
+use Rattle.rules.specs.Create.{Asked}
+use Rattle.rules.specs.Machine as machine
+use Rattle.records.specs.declared.Asked as read
+use Rattle.records.specs.declared.Call.{Call}
+use Rattle.records.specs.declared.Call.the-variants.{Create, Alloc, Release, Shrink, Query, SoftReset, HardReset}
+
+abbrev pub askedBy : read.Asked → Asked
+askedBy a = record { size = a .size; g = a .g; flags = a .flags; w = a .w; arena = a .arena; length = a .length }
+
+abbrev pub callBy : Call → machine.Call
+callBy (Create a) = machine.create (askedBy a)
+callBy (Alloc size) = machine.alloc size
+callBy (Release a) = machine.release a
+callBy (Shrink a size) = machine.shrink a size
+callBy (Query a) = machine.query a
+callBy SoftReset = machine.softReset
+callBy HardReset = machine.hardReset
