@@ -30,14 +30,9 @@ fn play_all(
 
 // ---- units
 
-// A word behind the last is 0, as nothing is drawn of it.
-fn word_at(words: &[u32], at: usize) -> u32 {
-    if at < words.len() { words[at] } else { 0 }
-}
-
 // The bit of a unit of the slot whose first word is `base`.
 fn bit_at(words: &[u32], base: usize, unit: usize) -> bool {
-    let word = word_at(words, std::num::wrapping_add_usize(base, unit / 32));
+    let word = show::word_at(words, std::num::wrapping_add_usize(base, unit / 32));
     word >> ((unit % 32) as u32) & 1 == 1
 }
 
@@ -60,31 +55,33 @@ fn mark_of(used: &[u32], stop: &[u32], base: usize, unit: usize) -> u8 {
 
 // ---- what is written
 
-fn number(n: u64) {
-    io::write_all(1, b" ");
-    io::print_decimal(1, n);
+fn byte(b: u8) {
+    let bytes: [u8; 1] = [b];
+    io::write_all(1, &bytes);
 }
 
-fn words(text: &[u8], n: u64) {
-    io::write_all(1, text);
-    number(n);
+fn number(numbers: &[u64], at: usize) {
+    if at < numbers.len() {
+        io::print_decimal(1, numbers[at]);
+    }
 }
 
-fn line_end() {
-    io::write_all(1, b"\n");
+// The text, with the next number in the place of each `@`.
+fn form(text: &[u8], numbers: &[u64]) {
+    let mut next: usize = 0;
+    let mut i: usize = 0;
+    while i < text.len() {
+        if text[i] == b'@' {
+            number(numbers, next);
+            next = std::num::wrapping_add_usize(next, 1);
+        } else {
+            byte(text[i]);
+        }
+        i += 1;
+    }
 }
 
 // ---- a block
-
-// The first word of a slot; 0 for numbers that no state has.
-fn slot_base(slot: usize, w: usize) -> usize {
-    if slot < 64 {
-        if w <= 16384 {
-            return slot * w;
-        }
-    }
-    0
-}
 
 // The units from `from` up to `to` are all drawn alike.
 fn alike(used: &[u32], stop: &[u32], base: usize, from: usize, to: usize, mark: u8) -> bool {
@@ -99,15 +96,13 @@ fn alike(used: &[u32], stop: &[u32], base: usize, from: usize, to: usize, mark: 
 }
 
 fn draw_row(used: &[u32], stop: &[u32], base: usize, from: usize, to: usize) {
-    number(from as u64);
-    io::write_all(1, b"\t");
+    form(b" @\t", &[from as u64]);
     let mut i = from;
     while i < to {
-        let mark: [u8; 1] = [mark_of(used, stop, base, i)];
-        io::write_all(1, &mark);
+        byte(mark_of(used, stop, base, i));
         i += 1;
     }
-    line_end();
+    byte(b'\n');
 }
 
 // All free, all inside a span, or mixed, which is drawn.
@@ -124,11 +119,9 @@ fn row_kind(used: &[u32], stop: &[u32], base: usize, from: usize, to: usize) -> 
 // Rows that are all alike are counted and not drawn.
 fn passed(kind: u8, rows: u64) {
     if 0 < rows {
-        let mark: [u8; 1] = [kind];
-        io::write_all(1, b"\t");
-        io::write_all(1, &mark);
-        words(b" in rows of 64:", rows);
-        line_end();
+        byte(b'\t');
+        byte(kind);
+        form(b" in rows of 64: @\n", &[rows]);
     }
 }
 
@@ -159,53 +152,69 @@ fn draw_units(used: &[u32], stop: &[u32], base: usize, area: u32) {
     passed(last, rows);
 }
 
-fn draw_block(b: Block, age: usize) {
-    words(b"block", age as u64);
-    words(b": address", b.base);
-    words(b", size", b.size);
-    words(b", pool", b.pool as u64);
-    words(b", slot", b.slot as u64);
-    words(b", used", b.used as u64);
-    words(b" of", b.area as u64);
-    words(b", window", b.start as u64);
-    words(b" to", b.end as u64);
-    words(b", largest", b.largest as u64);
-    if b.flags & Block::FLAG_EMPTY != 0 {
+fn draw_numbers(b: Block, age: usize) {
+    let numbers = [
+        age as u64,
+        b.base,
+        b.size,
+        b.pool as u64,
+        b.slot as u64,
+        b.used as u64,
+        b.area as u64,
+        b.start as u64,
+        b.end as u64,
+        b.largest as u64,
+    ];
+    form(
+        b"block @: address @, size @, pool @, slot @, used @ of @, window @ to @, largest @",
+        &numbers,
+    );
+}
+
+fn draw_flags(flags: u32) {
+    if flags & Block::FLAG_EMPTY != 0 {
         io::write_all(1, b", empty");
     }
-    if b.flags & Block::FLAG_DIRTY != 0 {
+    if flags & Block::FLAG_DIRTY != 0 {
         io::write_all(1, b", dirty");
     }
-    line_end();
+    byte(b'\n');
+}
+
+fn draw_block(b: Block, age: usize, w: usize, used: &[u32], stop: &[u32]) {
+    draw_numbers(b, age);
+    draw_flags(b.flags);
+    draw_units(used, stop, show::slot_base(b.slot, w), b.area);
+}
+
+fn draw_head(s: State) {
+    let numbers = [s.live, s.count as u64, s.slots as u64, s.w as u64];
+    form(b"live spans @, blocks @, slots @ of @ words\n", &numbers);
 }
 
 fn draw(s: State, used: &[u32], stop: &[u32]) {
-    words(b"live spans", s.live);
-    words(b", blocks", s.count as u64);
-    words(b", slots", s.slots as u64);
-    words(b" of", s.w as u64);
-    io::write_all(1, b" words");
-    line_end();
+    draw_head(s);
     let mut i: usize = 0;
     while i < 64 {
         if i < s.count {
-            let b = s.blocks[i];
-            draw_block(b, i);
-            draw_units(used, stop, slot_base(b.slot, s.w), b.area);
+            draw_block(s.blocks[i], i, s.w, used, stop);
         }
         i += 1;
     }
 }
 
-fn main() {
-    let file = feed::open();
-    if file < 0 {
-        return;
-    }
+fn draw_trace(file: i32) {
     let mut used = feed::map_words();
     let mut stop = feed::map_words();
     let mut buffer = io::buffer();
     let mut out = io::large_buffer();
     let s = play_all(file, &mut used, &mut stop, &mut buffer, &mut out);
     draw(s, &used, &stop);
+}
+
+fn main() {
+    let file = feed::open();
+    if 0 <= file {
+        draw_trace(file);
+    }
 }

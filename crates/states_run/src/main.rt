@@ -1,11 +1,10 @@
 // Plays cases through the public calls: states that no trace reaches, given as numbers. `stdin` has the cases of oracle/states.txt, and `stdout` what
 // the oracle's plain program writes for them (oracle/make-states makes both). oracle/states.py says how a case is laid out and what is written.
 use block::Block;
+use records::Call;
 use sizes::Pool;
 use state::Answer;
 use state::Outcome;
-use state::Refusal;
-use state::Span;
 use state::State;
 ghost use mathlib.Core.Path.{_≡_};
 ghost use Prim.Native.Nat.{_≤_};
@@ -13,118 +12,30 @@ ghost use lib.ListN.{length};
 
 // ---- numbers
 
-fn from_bytes(a: u8, b: u8, c: u8, d: u8) -> u32 {
-    (a as u32) | (b as u32) << 8 | (c as u32) << 16 | (d as u32) << 24
+// Eight bytes, the lowest first.
+fn read_u64() -> u64 {
+    let mut bytes: [u8; 8] = [0; 8];
+    io::read_full(0, &mut bytes);
+    let mut n: u64 = 0;
+    let mut i: usize = 8;
+    while 0 < i {
+        i -= 1;
+        n = n << 8 | wide(bytes[i]);
+    }
+    n
 }
 
-fn read_half() -> u32 {
-    let mut bytes: [u8; 4] = [0; 4];
-    io::read_full(0, &mut bytes);
-    from_bytes(bytes[0], bytes[1], bytes[2], bytes[3])
+fn wide(byte: u8) -> u64 {
+    byte as u64
 }
 
 // A number of 32 bits: the upper half is passed over.
 fn read_u32() -> u32 {
-    let low = read_half();
-    read_half();
-    low
-}
-
-fn read_u64() -> u64 {
-    let low = read_half() as u64;
-    let high = read_half() as u64;
-    low | high << 32
+    (read_u64() % 4294967296) as u32
 }
 
 fn read_usize() -> usize {
     read_u64() as usize
-}
-
-fn number(n: u64) {
-    io::write_all(1, b" ");
-    io::print_decimal(1, n);
-}
-
-// A word and the first of twelve numbers.
-fn line(word: &[u8], numbers: &[u64; 12], n: usize)
-    requires { ⌜ n ≤ 12 ⌝ }
-{
-    io::write_all(1, word);
-    let mut i: usize = 0;
-    while i < n {
-        number(numbers[i]);
-        i += 1;
-    }
-    io::write_all(1, b"\n");
-}
-
-// ---- answers
-
-fn span_line(x: Span) {
-    line(
-        b"span",
-        &[x.address, x.size, 0, 0, 0, 0, 0, 0, 0, 0, 0, 0],
-        2,
-    );
-}
-
-fn released_line(x: Span) {
-    line(
-        b"released",
-        &[x.address, x.size, 0, 0, 0, 0, 0, 0, 0, 0, 0, 0],
-        2,
-    );
-}
-
-fn shrunk_line(x: Span) {
-    line(
-        b"shrunk",
-        &[x.address, x.size, 0, 0, 0, 0, 0, 0, 0, 0, 0, 0],
-        2,
-    );
-}
-
-fn created_line(size: u64, g: u64, pools: usize) {
-    line(
-        b"created",
-        &[size, g, pools as u64, 0, 0, 0, 0, 0, 0, 0, 0, 0],
-        3,
-    );
-}
-
-fn reset_line() {
-    io::write_all(1, b"reset\n");
-}
-
-fn refusal_number(why: Refusal) -> u64 {
-    match why {
-        Refusal::InvalidArgument => 1,
-        Refusal::TooLarge => 2,
-        Refusal::InvalidState => 3,
-        Refusal::NoMapping => 4,
-        Refusal::BadShape => 5,
-        Refusal::Damaged => 6,
-    }
-}
-
-fn refusal_line(why: Refusal) {
-    line(
-        b"refused",
-        &[refusal_number(why), 0, 0, 0, 0, 0, 0, 0, 0, 0, 0, 0],
-        1,
-    );
-}
-
-fn answer_line(a: Answer) {
-    match a {
-        Answer::Created(size, g, pools) => created_line(size, g, pools),
-        Answer::Granted(x) => span_line(x),
-        Answer::Shown(x) => span_line(x),
-        Answer::Released(x) => released_line(x),
-        Answer::Shrunk(x) => shrunk_line(x),
-        Answer::Reset => reset_line(),
-        Answer::Refused(why) => refusal_line(why),
-    }
 }
 
 // ---- a state, in
@@ -146,21 +57,31 @@ fn read_pool() -> Pool {
 
 // The record with no entry yet: its head and its pools.
 fn read_state() -> State {
-    let mut s = state::zero_state();
-    s.size = read_u64();
-    s.g = read_u64();
-    s.pools = read_usize();
-    s.immediate = read_u64() != 0;
-    s.w = read_usize();
-    s.slots = read_usize();
-    s.arena = read_u64();
-    s.length = read_u64();
-    s.live = read_u64();
-    s.count = read_usize();
-    s.pool[0] = read_pool();
-    s.pool[1] = read_pool();
-    s.pool[2] = read_pool();
-    s
+    let size = read_u64();
+    let g = read_u64();
+    let pools = read_usize();
+    let immediate = read_u64() != 0;
+    let w = read_usize();
+    let slots = read_usize();
+    let arena = read_u64();
+    let length = read_u64();
+    let live = read_u64();
+    let count = read_usize();
+    State {
+        size,
+        g,
+        pools,
+        immediate,
+        w,
+        slots,
+        arena,
+        length,
+        live,
+        count,
+        blocks: [state::zero_block(); 64],
+        order: [0; 64],
+        pool: [read_pool(), read_pool(), read_pool()],
+    }
 }
 
 fn read_block() -> Block {
@@ -219,22 +140,19 @@ fn put_words(words: &mut [u32]) {
 // ---- a state, out
 
 fn head_line(s: State) {
-    let now = s.immediate as u64;
     let numbers = [
         s.size,
         s.g,
         s.pools as u64,
-        now,
+        s.immediate as u64,
         s.w as u64,
         s.slots as u64,
         s.arena,
         s.length,
         s.live,
         s.count as u64,
-        0,
-        0,
     ];
-    line(b"record", &numbers, 10);
+    show::line(b"record", &numbers);
 }
 
 fn pool_line(q: Pool) {
@@ -244,15 +162,14 @@ fn pool_line(q: Pool) {
         q.empty as u64,
         q.area as u64,
         q.used as u64,
-        0,
-        0,
-        0,
-        0,
-        0,
-        0,
-        0,
     ];
-    line(b"pool", &numbers, 5);
+    show::line(b"pool", &numbers);
+}
+
+fn show_pools(s: State) {
+    pool_line(s.pool[0]);
+    pool_line(s.pool[1]);
+    pool_line(s.pool[2]);
 }
 
 fn is_zero(age: usize, b: Block) -> bool {
@@ -280,28 +197,27 @@ fn entry_line(i: usize, age: usize, b: Block) {
         b.end as u64,
         b.largest as u64,
     ];
-    line(b"entry", &numbers, 12);
+    show::line(b"entry", &numbers);
 }
 
-fn show_record(s: State) {
-    head_line(s);
-    pool_line(s.pool[0]);
-    pool_line(s.pool[1]);
-    pool_line(s.pool[2]);
+fn show_entry(i: usize, age: usize, b: Block) {
+    if !is_zero(age, b) {
+        entry_line(i, age, b);
+    }
+}
+
+fn show_entries(s: State) {
     let mut i: usize = 0;
     while i < 64 {
-        let age = s.order[i];
-        let b = s.blocks[i];
-        if !is_zero(age, b) {
-            entry_line(i, age, b);
-        }
+        show_entry(i, s.order[i], s.blocks[i]);
         i += 1;
     }
 }
 
 fn word_line(name: &[u8], i: usize, word: u32) {
     io::write_all(1, name);
-    number(i as u64);
+    io::write_all(1, b" ");
+    io::print_decimal(1, i as u64);
     io::write_all(1, b" ");
     io::print_hex(1, word as u64, 8);
     io::write_all(1, b"\n");
@@ -334,29 +250,46 @@ fn create(used: &mut [u32], stop: &mut [u32]) -> Outcome {
     create::create(size, g, flags, w, arena, length, used, stop)
 }
 
-// The calls by their kinds in a trace.
+// The other calls by their kinds in a trace.
+fn read_call(kind: u64) -> Call {
+    match kind {
+        2 => Call::Alloc(read_u64()),
+        3 => Call::Release(read_u64()),
+        4 => Call::Shrink(read_u64(), read_u64()),
+        5 => Call::Query(read_u64()),
+        6 => Call::SoftReset,
+        _ => Call::HardReset,
+    }
+}
+
 fn call(s: State, used: &mut [u32], stop: &mut [u32], kind: u64) -> Outcome {
     if kind == 1 {
         return create(used, stop);
     }
-    if kind == 2 {
-        return alloc::alloc(s, used, stop, read_u64());
+    trace::call(s, used, stop, read_call(kind))
+}
+
+fn answer_line(out: &mut [u8], answer: Answer) {
+    if out.len() >= lines::LINE {
+        let end = lines::put_answer(out, 0, answer);
+        show::front(out, end);
     }
-    if kind == 3 {
-        return release::release(s, used, stop, read_u64());
-    }
-    if kind == 4 {
-        let address = read_u64();
-        return shrink::shrink(s, used, stop, address, read_u64());
-    }
-    if kind == 5 {
-        let answer = query::query(s, used, stop, read_u64());
-        return Outcome { answer, state: s };
-    }
-    if kind == 6 {
-        return reset::soft_reset(s, used, stop);
-    }
-    reset::hard_reset(s, used, stop)
+}
+
+fn play_call(s: State, used: &mut [u32], stop: &mut [u32], kind: u64) -> State {
+    let o = call(s, used, stop, kind);
+    let answer = o.answer;
+    let mut out: [u8; 80] = [0; 80];
+    answer_line(&mut out, answer);
+    o.state
+}
+
+fn show_all(s: State, used: &[u32], stop: &[u32]) {
+    head_line(s);
+    show_pools(s);
+    show_entries(s);
+    show_words(b"used", used);
+    show_words(b"stop", stop);
 }
 
 // A step: a call, an entry of the lists, or all that isn't zero shown.
@@ -365,15 +298,10 @@ fn play(s: State, used: &mut [u32], stop: &mut [u32], kind: u64) -> State {
         return put_entry(s);
     }
     if kind == 9 {
-        show_record(s);
-        show_words(b"used", used);
-        show_words(b"stop", stop);
+        show_all(s, used, stop);
         return s;
     }
-    let o = call(s, used, stop, kind);
-    let answer = o.answer;
-    answer_line(answer);
-    o.state
+    play_call(s, used, stop, kind)
 }
 
 // How often a loop turns at most: with a bound it ends whatever the input is.

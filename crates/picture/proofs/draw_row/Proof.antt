@@ -1,6 +1,4 @@
-use Prim.Native.Nat.{_+_, _-_, _*_, _≤_}
-use mathlib.Core.Path.{_≡_}
-use native.Mathlib.Omega.{arith}
+use Prim.Native.Nat.{_-_}
 use borrow.Author.Needs.{needs}
 use Rattle.picture.proofs.draw_row.Statement.{statement}
 use Rattle.picture.proofs.draw_row.Tie as tie
@@ -11,14 +9,14 @@ Inv-loop used stop base from to i₀ i = Unit {0}
 abbrev μ-loop : tie.MeasureT-loop
 μ-loop used stop base from to i₀ i = to - i
 
-number-requires : tie.Need-number-requires Inv-loop μ-loop
-number-requires c κs = search needs
+slice-aggregate-form : tie.Need-slice-aggregate-form Inv-loop μ-loop
+slice-aggregate-form c = search needs
 
-slice-aggregate-write-all : tie.Need-slice-aggregate-write-all Inv-loop μ-loop
-slice-aggregate-write-all c = search needs
+slice-aggregate-form-2 : tie.Need-slice-aggregate-form-2 Inv-loop μ-loop
+slice-aggregate-form-2 c = search needs
 
-write-all-requires : tie.Need-write-all-requires Inv-loop μ-loop
-write-all-requires c κs = search needs
+form-requires : tie.Need-form-requires Inv-loop μ-loop
+form-requires c κs = search needs
 
 loop-holds : tie.Need-loop-holds Inv-loop μ-loop
 loop-holds c = search needs
@@ -26,11 +24,8 @@ loop-holds c = search needs
 mark-of-requires : tie.Need-mark-of-requires Inv-loop μ-loop
 mark-of-requires c κs = search needs
 
-slice-aggregate-write-all-2 : tie.Need-slice-aggregate-write-all-2 Inv-loop μ-loop
-slice-aggregate-write-all-2 c = search needs
-
-write-all-requires-2 : tie.Need-write-all-requires-2 Inv-loop μ-loop
-write-all-requires-2 c κs = search needs
+byte-requires : tie.Need-byte-requires Inv-loop μ-loop
+byte-requires c κs = search needs
 
 add-i : tie.Need-add-i Inv-loop μ-loop
 add-i c = search needs
@@ -41,8 +36,8 @@ loop-less c = search needs
 loop-again : tie.Need-loop-again Inv-loop μ-loop
 loop-again c = search needs
 
-line-end-requires : tie.Need-line-end-requires Inv-loop μ-loop
-line-end-requires c κs = search needs
+byte-requires-2 : tie.Need-byte-requires-2 Inv-loop μ-loop
+byte-requires-2 c κs = search needs
 
 returns : tie.Need-returns Inv-loop μ-loop
 returns c = search needs
@@ -53,15 +48,14 @@ draw-row-spec =
     (tie.spec
     Inv-loop
     μ-loop
-    number-requires
-    slice-aggregate-write-all
-    write-all-requires
+    slice-aggregate-form
+    slice-aggregate-form-2
+    form-requires
     loop-holds
     mark-of-requires
-    slice-aggregate-write-all-2
-    write-all-requires-2
+    byte-requires
     add-i
     loop-less
     loop-again
-    line-end-requires
+    byte-requires-2
     returns)

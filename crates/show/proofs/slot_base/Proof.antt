@@ -1,10 +1,8 @@
-use Prim.Native.Nat.{_+_, _-_, _*_, _≤_}
-use mathlib.Core.Path.{_≡_}
 use native.Mathlib.Nat.{mul-le-mul}
 use native.Mathlib.Omega.{arith}
 use borrow.Author.Needs.{needs}
-use Rattle.picture.proofs.slot_base.Statement.{statement}
-use Rattle.picture.proofs.slot_base.Tie as tie
+use Rattle.show.proofs.slot_base.Statement.{statement}
+use Rattle.show.proofs.slot_base.Tie as tie
 
 mul-result : tie.Need-mul-result
 mul-result c = let a = c .before .before .args in omega (arith, mul-le-mul {n₁ = a .slot} {m₁ = a .w} {n₂ = 64} {m₂ = 16384} (search needs) (search needs))
