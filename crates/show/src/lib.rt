@@ -1,6 +1,6 @@
 // What the programs that show a state share: a word and numbers as one line on standard output, and the words of a slot.
 ghost use mathlib.Core.Path.{_≡_};
-ghost use lib.ListN.{length, getD};
+ghost use lib.ListN.{getD};
 
 // ---- lines
 
