@@ -7,6 +7,10 @@ use state::State;
 ghost use mathlib.Core.Path.{_≡_};
 ghost use Prim.Native.Nat.{_<_, _≤_, min};
 ghost use lib.ListN.{length};
+ghost use Rattle.state.specs.declared.Refusal.the-variants.{InvalidArgument};
+ghost use Rattle.state.specs.declared.Answer.the-variants.{Created};
+ghost use Rattle.state.specs.Table.{zeroState};
+ghost use Rattle.state.specs.Outcome.{refusal};
 ghost use Rattle.rules.specs.Turn.{turn};
 ghost use Rattle.rules.specs.Create.{poolsAsked, immediateAsked, slotsOf, grantable, freshState, cleared, createTurn};
 ghost use Rattle.create.specs.Asked.{asked};
@@ -101,6 +105,22 @@ fn fresh_state(
     }
 }
 
+// The answer to a creation that is granted has what is in force.
+fn created(state: State) -> Outcome
+    ensures { λ r. ⌜ (r .state ≡ state) × (r .answer ≡ Created (state .size) (state .g) (state .pools)) ⌝ }
+{
+    Outcome {
+        answer: Answer::Created(state.size, state.g, state.pools),
+        state,
+    }
+}
+
+fn not_granted() -> Outcome
+    ensures { λ r. ⌜ r ≡ refusal zeroState InvalidArgument ⌝ }
+{
+    state::refused(state::zero_state(), Refusal::InvalidArgument)
+}
+
 // An allocator over the two slices and the arena. A size or a granularity that is not listed becomes the least one; other numbers out of
 // their range are refused, and then no word is written.
 pub fn create(
@@ -117,13 +137,11 @@ pub fn create(
 {
     let words = w as usize;
     if !is_grantable(words, arena, length, used.len(), stop.len()) {
-        return state::refused(state::zero_state(), Refusal::InvalidArgument);
+        return not_granted();
     }
     let slots = slots_of(words, used.len(), stop.len());
     let n = slots * words;
     clear_words(used, n);
     clear_words(stop, n);
-    let state = fresh_state(size, g, flags, words, arena, length, slots);
-    let answer = Answer::Created(state.size, state.g, state.pools);
-    Outcome { answer, state }
+    created(fresh_state(size, g, flags, words, arena, length, slots))
 }

@@ -46,7 +46,7 @@ pub fn new_span(
     let Found::At(k) = slot else {
         return state::refused(s, Refusal::NoMapping);
     };
-    let pool = s.pool[p];
+    let pool = entry::pool_at(s, p);
     let area = numbers::area_size_from_byte_size(bytes, pool.granularity);
     let words = numbers::area_size_from_byte_size(area as u64, 32);
     if s.w < words as usize {

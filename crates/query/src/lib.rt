@@ -21,14 +21,8 @@ pub fn query(s: State, used: &[u32], stop: &[u32], address: u64) -> Answer
     };
     let held = spans::held_in(s, used, stop, j, address);
     match held {
-        Held::NoSpan => {
-            return Answer::Refused(Refusal::InvalidArgument);
-        }
-        Held::NoStop => {
-            return Answer::Refused(Refusal::Damaged);
-        }
-        Held::Units(i, e) => {
-            return Answer::Shown(entry::span_at(s, j, address, e - i));
-        }
+        Held::NoSpan => Answer::Refused(Refusal::InvalidArgument),
+        Held::NoStop => Answer::Refused(Refusal::Damaged),
+        Held::Units(i, e) => Answer::Shown(entry::span_at(s, j, address, e - i)),
     }
 }

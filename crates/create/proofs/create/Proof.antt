@@ -1,10 +1,13 @@
 use Prim.Native.Nat.{ℕ, _*_, _≤_}
 use mathlib.Core.Bool.{true}
-use mathlib.Core.Path.{_≡_, sym, ap, _∙_}
+use mathlib.Core.Path.{_≡_, refl, sym, ap, ap₂, _∙_}
 use native.Mathlib.Omega.{arith}
 use borrow.Author.Tests.{not-true, not-false}
 use lib.ListN.{length}
+use Rattle.state.specs.declared.State.{State}
+use Rattle.state.specs.declared.Answer.{Answer}
 use Rattle.state.specs.declared.Outcome.{Outcome}
+use Rattle.state.specs.Table.{zeroState}
 use Rattle.rules.specs.Turn.{turn}
 use Rattle.rules.specs.Create.{grantable}
 use Rattle.create.specs.Asked.{asked}
@@ -26,23 +29,14 @@ room c =
     let e = ap (λ (n : ℕ). n * a .w) (c .slots-of .ensures) in
     (omega (arith, e, r .0), omega (arith, e, r .1))
 
-is-grantable-requires : tie.Need-is-grantable-requires
-is-grantable-requires c κs = search needs
-
-zero-state-requires : tie.Need-zero-state-requires
-zero-state-requires c κs = search needs
-
-refused-requires : tie.Need-refused-requires
-refused-requires c κs = search needs
-
 returns : tie.Need-returns
 returns c =
-    let a = c .before .before .before .before .before .before .args in
-    ap (λ (o : Outcome). turn (o .answer) (o .state) (a .used .now) (a .stop .now)) (c .refused .ensures)
-    ∙ refused-is (asked (a .size) (a .g) (a .flags) (a .w) (a .arena) (a .length)) (a .used .now) (a .stop .now) (c .before .zero-state .result) (sym (c .before .before .before .is-grantable .ensures) ∙ not-true (c .before .before .before .is-grantable .result) (c .before .before .if1 .taken)) (c .before .zero-state .ensures)
+    let a = c .before .before .before .before .before .args in
+    ap (λ (o : Outcome). turn (o .answer) (o .state) (a .used .now) (a .stop .now)) (c .not-granted .ensures)
+    ∙ refused-is (asked (a .size) (a .g) (a .flags) (a .w) (a .arena) (a .length)) (a .used .now) (a .stop .now) zeroState (sym (c .before .before .is-grantable .ensures) ∙ not-true (c .before .before .is-grantable .result) (c .before .if1 .taken)) refl
 
 slots-of-requires : tie.Need-slots-of-requires
-slots-of-requires c κs = let a = c .before .before .before .before .args in words-low (asked (a .size) (a .g) (a .flags) (a .w) (a .arena) (a .length)) (length (a .used .now)) (length (a .stop .now)) (good c)
+slots-of-requires c κs = let a = c .before .before .before .before .args in words-low (asked (a .size) (a .g) (a .flags) (a .w) (a .arena) (a .length)) (length (a .used .now)) (length (a .stop .now)) (good (c))
 
 mul-n : tie.Need-mul-n
 mul-n c = let a = c .before .before .before .before .before .args in omega (arith, ap (λ (n : ℕ). n * a .w) (c .slots-of .ensures), slots-few (a .w) (length (a .used .now)) (length (a .stop .now)) (words-high (asked (a .size) (a .g) (a .flags) (a .w) (a .arena) (a .length)) (length (a .used .now)) (length (a .stop .now)) (good (c .before))))
@@ -53,8 +47,24 @@ clear-words-requires c κs = room (c .before) .0
 clear-words-requires-2 : tie.Need-clear-words-requires-2
 clear-words-requires-2 c κs = room (c .before .before .before .before .before) .1
 
+returns-2 : tie.Need-returns-2
+returns-2 c =
+    let a = c .before .before .before .before .before .before .before .before .before .before .before .before .before .before .before .args in
+    ap₂ (λ (x : Answer) (y : State). turn x y (c .before .before .before .before .before .before .before .before .clear-words .last .0) (c .before .before .before .before .clear-words2 .last .0)) (c .created .ensures .1) (c .created .ensures .0)
+    ∙ granted-is (asked (a .size) (a .g) (a .flags) (a .w) (a .arena) (a .length)) (a .used .now) (a .stop .now) (c .before .fresh-state .result) (c .before .before .before .before .before .before .before .before .before .before .slots-of .result) (c .before .before .before .before .before .before .before .before .clear-words .last .0) (c .before .before .before .before .clear-words2 .last .0)
+    (good (c .before .before .before .before .before .before .before .before .before .before .before)) (c .before .before .before .before .before .before .before .before .before .before .slots-of .ensures) (c .before .fresh-state .ensures) (c .before .before .before .before .before .before .before .before .clear-words .ensures) (c .before .before .before .before .clear-words2 .ensures)
+
+is-grantable-requires : tie.Need-is-grantable-requires
+is-grantable-requires c κs = search needs
+
+not-granted-requires : tie.Need-not-granted-requires
+not-granted-requires c κs = search needs
+
 fresh-state-requires : tie.Need-fresh-state-requires
 fresh-state-requires c κs = search needs
+
+created-requires : tie.Need-created-requires
+created-requires c κs = search needs
 
 same-length : tie.Need-same-length
 same-length c = search needs
@@ -62,25 +72,19 @@ same-length c = search needs
 same-length-2 : tie.Need-same-length-2
 same-length-2 c = search needs
 
-returns-2 : tie.Need-returns-2
-returns-2 c =
-    let a = c .before .before .before .before .before .before .before .before .before .before .before .before .before .before .args in
-    granted-is (asked (a .size) (a .g) (a .flags) (a .w) (a .arena) (a .length)) (a .used .now) (a .stop .now) (c .fresh-state .result) (c .before .before .before .before .before .before .before .before .before .slots-of .result) (c .before .before .before .before .before .before .before .clear-words .last .0) (c .before .before .before .clear-words2 .last .0)
-    (good (c .before .before .before .before .before .before .before .before .before .before)) (c .before .before .before .before .before .before .before .before .before .slots-of .ensures) (c .fresh-state .ensures) (c .before .before .before .before .before .before .before .clear-words .ensures) (c .before .before .before .clear-words2 .ensures)
-
 pub create-spec : {M : Type 1} → statement M
 create-spec =
     tie.close
     (tie.spec
     is-grantable-requires
-    zero-state-requires
-    refused-requires
+    not-granted-requires
     returns
     slots-of-requires
     mul-n
     clear-words-requires
     clear-words-requires-2
     fresh-state-requires
+    created-requires
     same-length
     same-length-2
     returns-2)

@@ -131,10 +131,10 @@ query-spec =
     returns-2
     held-in-requires
     enum-told-2
-    returns-3
     enum-told-3
-    returns-4
     enum-known-held
     sub-span-at
     span-at-requires
+    returns-3
+    returns-4
     returns-5)
