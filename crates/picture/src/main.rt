@@ -203,18 +203,15 @@ fn draw(s: State, used: &[u32], stop: &[u32]) {
     }
 }
 
-fn draw_trace(file: i32) {
+fn main() {
+    let file = feed::open();
+    if file < 0 {
+        return;
+    }
     let mut used = feed::map_words();
     let mut stop = feed::map_words();
     let mut buffer = io::buffer();
     let mut out = io::large_buffer();
     let s = play_all(file, &mut used, &mut stop, &mut buffer, &mut out);
     draw(s, &used, &stop);
-}
-
-fn main() {
-    let file = feed::open();
-    if 0 <= file {
-        draw_trace(file);
-    }
 }

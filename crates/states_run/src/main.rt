@@ -1,10 +1,10 @@
 // Plays cases through the public calls: states that no trace reaches, given as numbers. `stdin` has the cases of oracle/states.txt, and `stdout` what
 // the oracle's plain program writes for them (oracle/make-states makes both). oracle/states.py says how a case is laid out and what is written.
 use block::Block;
+use records::Asked;
 use records::Call;
 use sizes::Pool;
 use state::Answer;
-use state::Outcome;
 use state::State;
 ghost use mathlib.Core.Path.{_≡_};
 ghost use Prim.Native.Nat.{_≤_};
@@ -239,20 +239,27 @@ fn show_words(name: &[u8], words: &[u32]) {
 
 // ---- cases
 
-// A refused one hands back a record of zeros, and the case goes on with that.
-fn create(used: &mut [u32], stop: &mut [u32]) -> Outcome {
+fn read_asked() -> Asked {
     let size = read_u32();
     let g = read_u32();
     let flags = read_u32();
     let w = read_u32();
     let arena = read_u64();
     let length = read_u64();
-    create::create(size, g, flags, w, arena, length, used, stop)
+    Asked {
+        size,
+        g,
+        flags,
+        w,
+        arena,
+        length,
+    }
 }
 
-// The other calls by their kinds in a trace.
+// The calls by their kinds in a trace.
 fn read_call(kind: u64) -> Call {
     match kind {
+        1 => Call::Create(read_asked()),
         2 => Call::Alloc(read_u64()),
         3 => Call::Release(read_u64()),
         4 => Call::Shrink(read_u64(), read_u64()),
@@ -262,11 +269,12 @@ fn read_call(kind: u64) -> Call {
     }
 }
 
-fn call(s: State, used: &mut [u32], stop: &mut [u32], kind: u64) -> Outcome {
+// A refused creation hands back a record of zeros, and the case goes on with that: a trace goes on with the record before it, so that is zeros here.
+fn before(s: State, kind: u64) -> State {
     if kind == 1 {
-        return create(used, stop);
+        return state::zero_state();
     }
-    trace::call(s, used, stop, read_call(kind))
+    s
 }
 
 fn answer_line(out: &mut [u8], answer: Answer) {
@@ -277,7 +285,7 @@ fn answer_line(out: &mut [u8], answer: Answer) {
 }
 
 fn play_call(s: State, used: &mut [u32], stop: &mut [u32], kind: u64) -> State {
-    let o = call(s, used, stop, kind);
+    let o = trace::call(before(s, kind), used, stop, read_call(kind));
     let answer = o.answer;
     let mut out: [u8; 80] = [0; 80];
     answer_line(&mut out, answer);
