@@ -4,31 +4,23 @@ ghost use lib.ListN.{getD};
 
 // ---- lines
 
-// A byte behind the others. What has no room is left out.
-fn put_byte(out: &mut [u8], at: usize, byte: u8) -> usize {
-    if at < out.len() {
-        out[at] = byte;
-        return at + 1;
+// The room of a line: a short word and 14 numbers. What has no room is left out.
+const ROOM: usize = 320;
+
+fn put_word(out: &mut [u8], word: &[u8]) -> usize {
+    if word.len() <= out.len() {
+        return put::put_bytes(out, 0, word);
+    }
+    0
+}
+
+fn put_number(out: &mut [u8], at: usize, n: u64) -> usize {
+    if at < ROOM - 21 {
+        if ROOM <= out.len() {
+            return put::put_number(out, at, n);
+        }
     }
     at
-}
-
-fn put_bytes(out: &mut [u8], at: usize, bytes: &[u8]) -> usize {
-    let mut end = at;
-    let mut i: usize = 0;
-    while i < bytes.len() {
-        end = put_byte(out, end, bytes[i]);
-        i += 1;
-    }
-    end
-}
-
-// A number behind a space.
-fn put_number(out: &mut [u8], at: usize, n: u64) -> usize {
-    let mut digits: [u8; 20] = [0; 20];
-    let k = io::decimal(n, &mut digits);
-    let next = put_byte(out, at, b' ');
-    put_bytes(out, next, &digits[..k])
 }
 
 fn put_numbers(out: &mut [u8], at: usize, numbers: &[u64]) -> usize {
@@ -41,6 +33,13 @@ fn put_numbers(out: &mut [u8], at: usize, numbers: &[u64]) -> usize {
     end
 }
 
+fn put_end(out: &mut [u8], at: usize) -> usize {
+    if at < out.len() {
+        return put::put_byte(out, at, b'\n');
+    }
+    at
+}
+
 // The bytes up to `end`, in one write.
 pub fn front(out: &[u8], end: usize) {
     if end <= out.len() {
@@ -49,15 +48,15 @@ pub fn front(out: &[u8], end: usize) {
 }
 
 fn write_line(out: &mut [u8], word: &[u8], numbers: &[u64]) {
-    let mut end = put_bytes(out, 0, word);
+    let mut end = put_word(out, word);
     end = put_numbers(out, end, numbers);
-    end = put_byte(out, end, b'\n');
+    end = put_end(out, end);
     front(out, end);
 }
 
-// A word and numbers, in one write. There is room for a short word and 14 numbers.
+// A word and numbers, in one write.
 pub fn line(word: &[u8], numbers: &[u64]) {
-    let mut out: [u8; 320] = [0; 320];
+    let mut out: [u8; 320] = [0; ROOM];
     write_line(&mut out, word, numbers);
 }
 

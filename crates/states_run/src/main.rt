@@ -285,7 +285,7 @@ fn answer_line(out: &mut [u8], answer: Answer) {
 }
 
 fn play_call(s: State, used: &mut [u32], stop: &mut [u32], kind: u64) -> State {
-    let o = trace::call(before(s, kind), used, stop, read_call(kind));
+    let o = calls::call(before(s, kind), used, stop, read_call(kind));
     let answer = o.answer;
     let mut out: [u8; 80] = [0; 80];
     answer_line(&mut out, answer);
