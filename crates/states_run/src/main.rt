@@ -278,7 +278,7 @@ fn before(s: State, kind: u64) -> State {
 }
 
 fn answer_line(out: &mut [u8], answer: Answer) {
-    if out.len() >= lines::LINE {
+    if out.len() >= text::LINE {
         let end = lines::put_answer(out, 0, answer);
         show::front(out, end);
     }
