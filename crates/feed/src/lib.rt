@@ -1,17 +1,19 @@
 // A trace from a file or from standard input, through the trace library, a buffer at a time. What the programs over it share.
 use state::State;
+use trace::Played;
 ghost use mathlib.Core.Path.{_≡_};
 ghost use Prim.Native.Nat.{_≤_, _-_};
 ghost use lib.ListN.{length};
 
-// Where a trace stands: the state, the bytes taken so far, those that wait at the front of the buffer, those that the last turn wrote, and whether that was the
-// last line.
+// Where a trace stands: the state, the bytes taken so far, those that wait at the front of the buffer, those that the last turn wrote, whether that was the
+// last turn, and whether it was because the trace can't be read.
 pub struct Feed {
     pub state: State,
     pub offset: u64,
     pub waiting: usize,
     pub written: usize,
     pub done: bool,
+    pub failed: bool,
 }
 
 pub fn start() -> Feed
@@ -23,6 +25,7 @@ pub fn start() -> Feed
         waiting: 0,
         written: 0,
         done: false,
+        failed: false,
     }
 }
 
@@ -63,18 +66,31 @@ fn keep(buffer: &mut [u8], from: usize, to: usize)
     }
 }
 
-// One read behind the bytes that wait. A failed one gets a line on standard error, and the input counts as ended.
-fn fill(file: i32, buffer: &mut [u8], waiting: usize) -> usize
+// What one read brought: none where the input ended, or where the read failed.
+struct Got {
+    more: usize,
+    failed: bool,
+}
+
+// One read behind the bytes that wait. A failed one gets a line on standard error.
+fn fill(file: i32, buffer: &mut [u8], waiting: usize) -> Got
     requires { ⌜ waiting ≤ length (now buffer) ⌝ }
-    ensures { λ r. ⌜ r ≤ length (now (buffer .entry)) - waiting ⌝ }
+    ensures { λ r. ⌜ r .more ≤ length (now (buffer .entry)) - waiting ⌝ }
 {
     let free = &mut buffer[waiting..];
     let got = libc::read(file, free);
     if got < 0 {
         os::fail(b"the trace can't be read");
-        return 0;
+        return Got {
+            more: 0,
+            failed: true,
+        };
     }
-    io::count(got, free)
+    let more = io::count(got, free);
+    Got {
+        more,
+        failed: false,
+    }
 }
 
 // The last line.
@@ -88,6 +104,53 @@ fn last(state: State, offset: u64, waiting: usize, out: &mut [u8]) -> Feed
         waiting,
         written,
         done: true,
+        failed: false,
+    }
+}
+
+// Where the buffer holds no whole record: reads on, and writes the last line where the trace ends. A trace that can't be read has no last line.
+fn read_on(
+    file: i32,
+    state: State,
+    offset: u64,
+    waiting: usize,
+    buffer: &mut [u8],
+    out: &mut [u8],
+) -> Feed
+    requires { ⌜ waiting ≤ length (now buffer) ⌝ }
+    ensures { λ r. ⌜ (r .waiting ≤ length (now (buffer .entry))) × (r .written ≤ length (now (out .entry))) ⌝ }
+{
+    let got = fill(file, buffer, waiting);
+    let more = got.more;
+    if more == 0 && !got.failed {
+        return last(state, offset, waiting, out);
+    }
+    Feed {
+        state,
+        offset,
+        waiting: waiting + more,
+        written: 0,
+        done: got.failed,
+        failed: got.failed,
+    }
+}
+
+// The records that were played go, and what waits behind them moves to the buffer's front.
+fn go_on(f: Feed, p: Played, buffer: &mut [u8]) -> Feed
+    requires { ⌜ (p .taken ≤ f .waiting) × (f .waiting ≤ length (now buffer)) ⌝ }
+    ensures { λ r. ⌜ (r .waiting ≤ length (now (buffer .entry))) × (r .written ≡ p .written) ⌝ }
+{
+    let waiting = f.waiting;
+    let taken = p.taken;
+    let state = p.state;
+    keep(buffer, taken, waiting);
+    Feed {
+        state,
+        offset: std::num::wrapping_add_u64(f.offset, taken as u64),
+        waiting: waiting - taken,
+        written: p.written,
+        done: false,
+        failed: false,
     }
 }
 
@@ -107,30 +170,12 @@ pub fn turn(
     let waiting = f.waiting;
     let before = f.state;
     let p = trace::play(before, used, stop, &buffer[..waiting], out);
-    let taken = p.taken;
-    let state = p.state;
-    if 0 < taken {
-        keep(buffer, taken, waiting);
-        return Feed {
-            state,
-            offset: std::num::wrapping_add_u64(f.offset, taken as u64),
-            waiting: waiting - taken,
-            written: p.written,
-            done: false,
-        };
+    if 0 < p.taken {
+        return go_on(f, p, buffer);
     }
+    let state = p.state;
     if p.bad {
         return last(state, f.offset, waiting, out);
     }
-    let more = fill(file, buffer, waiting);
-    if more == 0 {
-        return last(state, f.offset, waiting, out);
-    }
-    Feed {
-        state,
-        offset: f.offset,
-        waiting: waiting + more,
-        written: 0,
-        done: false,
-    }
+    read_on(file, state, f.offset, waiting, buffer, out)
 }

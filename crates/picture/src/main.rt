@@ -1,6 +1,7 @@
 // Draws what a trace leaves: plays it as the trace program does, without its lines, and writes for each block, oldest first, its numbers and its units in rows of 64,
 // `#` where a span starts, `=` inside one, `.` where a unit is free. Rows that are all alike are counted.
 use block::Block;
+use feed::Feed;
 use state::State;
 
 const FREE: u8 = 46;
@@ -17,7 +18,7 @@ fn play_all(
     stop: &mut [u32],
     buffer: &mut [u8],
     out: &mut [u8],
-) -> State {
+) -> Feed {
     let mut f = feed::start();
     // nothing says that a file ends, so the turns count down from a number that no run uses up
     let mut turns = u64::MAX;
@@ -25,7 +26,7 @@ fn play_all(
         f = feed::turn(file, f, used, stop, buffer, out);
         turns -= 1;
     }
-    f.state
+    f
 }
 
 // ---- units
@@ -212,6 +213,9 @@ fn main() {
     let mut stop = feed::map_words();
     let mut buffer = io::buffer();
     let mut out = io::large_buffer();
-    let s = play_all(file, &mut used, &mut stop, &mut buffer, &mut out);
-    draw(s, &used, &stop);
+    let f = play_all(file, &mut used, &mut stop, &mut buffer, &mut out);
+    if f.failed {
+        return;
+    }
+    draw(f.state, &used, &stop);
 }

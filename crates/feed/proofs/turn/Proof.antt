@@ -10,19 +10,14 @@ slice-reshare-prefix-play : tie.Need-slice-reshare-prefix-play
 slice-reshare-prefix-play c = search needs
 
 slice-aggregate-play : tie.Need-slice-aggregate-play
-slice-aggregate-play c = sym (length-take-le (c .before .before .before .before .before .before .before .before .args .f .waiting) (c .before .before .before .before .before .before .before .before .args .buffer .now) (c .before .before .before .before .before .before .before .before .pre))
+slice-aggregate-play c = let s = c .before .before .before .before .before .before .before .before in sym (length-take-le (s .args .f .waiting) (s .args .buffer .now) (s .pre))
 
 play-requires : tie.Need-play-requires
 play-requires c κs = search needs
 
-keep-requires : tie.Need-keep-requires
-keep-requires c κs = (omega (arith, c .before .before .before .before .before .before .before .before .before .play .ensures .1 .0, length-take-le (c .before .before .before .before .before .before .before .before .before .before .before .before .before .before .before .before .before .before .before .args .f .waiting) (c .before .before .before .before .before .before .before .before .before .before .before .before .before .before .before .before .before .before .before .args .buffer .now) (c .before .before .before .before .before .before .before .before .before .before .before .before .before .before .before .before .before .before .before .pre)), c .before .before .before .before .before .before .before .before .before .before .before .before .before .before .before .before .before .before .before .pre)
-
-wrapping-add-u64-requires : tie.Need-wrapping-add-u64-requires
-wrapping-add-u64-requires c κs = search needs
-
-sub-t27 : tie.Need-sub-t27
-sub-t27 c = omega (arith, c .before .before .before .before .before .before .before .before .before .before .before .before .before .play .ensures .1 .0, length-take-le (c .before .before .before .before .before .before .before .before .before .before .before .before .before .before .before .before .before .before .before .before .before .before .before .args .f .waiting) (c .before .before .before .before .before .before .before .before .before .before .before .before .before .before .before .before .before .before .before .before .before .before .before .args .buffer .now) (c .before .before .before .before .before .before .before .before .before .before .before .before .before .before .before .before .before .before .before .before .before .before .before .pre))
+go-on-requires : tie.Need-go-on-requires
+go-on-requires c κs = let s = c .before .before .before .before .before .before .before .before .before .before .before .before .before .before .before .before .before .before .before in
+    (omega (arith, c .before .before .before .before .before .before .before .before .before .play .ensures .1 .0, length-take-le (s .args .f .waiting) (s .args .buffer .now) (s .pre)), s .pre)
 
 same-length : tie.Need-same-length
 same-length c = search needs
@@ -55,13 +50,10 @@ same-length-8 : tie.Need-same-length-8
 same-length-8 c = search needs
 
 returns-2 : tie.Need-returns-2
-returns-2 c = (omega (arith, c .before .before .last .ensures .0, c .before .before .before .before .before .before .before .before .before .before .before .before .before .before .before .before .before .before .before .before .before .before .before .pre), omega (arith, c .before .before .last .ensures .1, size (c .before .before .before .before .before .before .before .before .before .before .before .before .before .play .ensures .0 .lines)))
+returns-2 c = let p = c .before .before .before .before .before .before .before .before .before .before .before .before .before .before .play in (omega (arith, c .before .before .last .ensures .0, c .before .before .before .before .before .before .before .before .before .before .before .before .before .before .before .before .before .before .before .before .before .before .before .before .pre), omega (arith, c .before .before .last .ensures .1, size (p .ensures .0 .lines)))
 
-fill-requires : tie.Need-fill-requires
-fill-requires c κs = search needs
-
-last-requires-2 : tie.Need-last-requires-2
-last-requires-2 c κs = search needs
+read-on-requires : tie.Need-read-on-requires
+read-on-requires c κs = search needs
 
 same-length-9 : tie.Need-same-length-9
 same-length-9 c = search needs
@@ -76,25 +68,7 @@ same-length-12 : tie.Need-same-length-12
 same-length-12 c = search needs
 
 returns-3 : tie.Need-returns-3
-returns-3 c = (omega (arith, c .before .before .last2 .ensures .0, c .before .before .before .before .before .before .before .before .before .before .before .before .before .before .before .before .before .before .before .before .before .before .before .before .before .before .before .before .pre), omega (arith, c .before .before .last2 .ensures .1, size (c .before .before .before .before .before .before .before .before .before .before .before .before .before .before .before .before .before .before .play .ensures .0 .lines)))
-
-add-t34 : tie.Need-add-t34
-add-t34 c = omega (arith, c .before .before .before .fill .ensures, c .before .before .before .before .before .before .before .before .before .before .before .before .before .before .before .before .before .before .before .before .before .before .before .before .pre, c .before .before .before .before .before .before .before .before .before .before .before .before .before .before .before .before .before .before .before .before .before .before .before .before .good .1 .1 .1 .1 .0 .0)
-
-same-length-13 : tie.Need-same-length-13
-same-length-13 c = search needs
-
-same-length-14 : tie.Need-same-length-14
-same-length-14 c = search needs
-
-same-length-15 : tie.Need-same-length-15
-same-length-15 c = search needs
-
-same-length-16 : tie.Need-same-length-16
-same-length-16 c = search needs
-
-returns-4 : tie.Need-returns-4
-returns-4 c = search needs
+returns-3 c = search needs
 
 pub turn-spec : {M : Type 1} → statement M
 turn-spec =
@@ -103,9 +77,7 @@ turn-spec =
     slice-reshare-prefix-play
     slice-aggregate-play
     play-requires
-    keep-requires
-    wrapping-add-u64-requires
-    sub-t27
+    go-on-requires
     same-length
     same-length-2
     same-length-3
@@ -117,16 +89,9 @@ turn-spec =
     same-length-7
     same-length-8
     returns-2
-    fill-requires
-    last-requires-2
+    read-on-requires
     same-length-9
     same-length-10
     same-length-11
     same-length-12
-    returns-3
-    add-t34
-    same-length-13
-    same-length-14
-    same-length-15
-    same-length-16
-    returns-4)
+    returns-3)
