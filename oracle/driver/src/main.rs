@@ -2,7 +2,7 @@
 //!
 //! `driver compare DIRECTORY`: every trace on the original and on the plain program; a differing one is saved.
 //! `driver published`: every trace on the oracle and on the original's text as published.
-//! `driver program DIRECTORY PROGRAM [ARGUMENT]`: every trace on the oracle, on the plain program and on another program, which
+//! `driver program DIRECTORY PROGRAM EVERY [ARGUMENT]`: every trace, or each so many-th, on the oracle, on the plain program and on another program, which
 //! reads it from its standard input; with the argument `--blocks` it has to write the state after each call too, as the oracle does.
 //! `driver samples DIRECTORY`: writes the samples.
 //! `driver long FILE CALLS LIVE`: writes one long trace, with about so many live spans.
@@ -190,9 +190,9 @@ fn first_difference(wanted: &str, got: &str) -> String {
 }
 
 /// Compares another program with the oracle, one process a trace, and with the plain program, which covers what lies outside the
-/// oracle's domain. The smallest differing trace is saved.
-fn compare_all_program(directory: &Path, program: &str, arguments: &[&str]) -> bool {
-    let recipes = recipes();
+/// oracle's domain. Each `every`-th trace is taken. The smallest differing trace is saved.
+fn compare_all_program(directory: &Path, program: &str, every: usize, arguments: &[&str]) -> bool {
+    let recipes: Vec<_> = recipes().into_iter().step_by(every).collect();
     let mut progress = Progress::new(recipes.len());
     let path = directory.join("program.trace");
     let blocks = arguments.contains(&"--blocks");
@@ -238,14 +238,14 @@ fn main() {
     let good = match words.as_slice() {
         ["compare", directory] => compare_all(Path::new(directory)),
         ["published"] => compare_all_published(),
-        ["program", directory, program, arguments @ ..] => {
-            compare_all_program(Path::new(directory), program, arguments)
+        ["program", directory, program, every, arguments @ ..] if every.parse().is_ok_and(|n: usize| n > 0) => {
+            compare_all_program(Path::new(directory), program, every.parse().expect("tested"), arguments)
         }
         ["samples", directory] => samples::write_all(Path::new(directory)),
         ["long", file, calls, live] => write_long(Path::new(file), calls, live),
         _ => {
             eprintln!(
-                "driver: usage: driver compare DIRECTORY | published | program DIRECTORY PROGRAM | samples DIRECTORY | long FILE CALLS LIVE"
+                "driver: usage: driver compare DIRECTORY | published | program DIRECTORY PROGRAM EVERY [ARGUMENT] | samples DIRECTORY | long FILE CALLS LIVE"
             );
             exit(2);
         }
