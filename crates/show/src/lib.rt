@@ -1,5 +1,6 @@
 // What the programs that show a state share: a word and numbers as one line on standard output, and the words of a slot.
 ghost use mathlib.Core.Path.{_≡_};
+ghost use Prim.Native.Nat.{_*_, _≤_, _<_};
 ghost use lib.ListN.{getD};
 
 // ---- lines
@@ -70,7 +71,9 @@ pub fn word_at(words: &[u32], at: usize) -> u32
 }
 
 // The first word of a slot; 0 for numbers that no state has.
-pub fn slot_base(slot: usize, w: usize) -> usize {
+pub fn slot_base(slot: usize, w: usize) -> usize
+    ensures { λ r. ⌜ (slot < 64 → w ≤ 16384 → r ≡ slot * w) ⌝ }
+{
     if slot < 64 {
         if w <= 16384 {
             return slot * w;
