@@ -23,6 +23,7 @@ fn pools_like(stored: [Pool; 3], sums: [Pool; 3], immediate: bool) -> bool
     true
 }
 
+// The blocks by age, the pools' records, and the live count, which is at most the used units.
 pub fn table_ok(s: State) -> bool
     requires { ⌜ Headed s ⌝ }
     ensures { λ r. ⌜ r ≡ tableOk s ⌝ }
