@@ -8,23 +8,8 @@ use borrow.Author.Needs.{needs}
 use Rattle.mark.proofs.mark_shrunk_area.Statement.{statement}
 use Rattle.mark.proofs.mark_shrunk_area.Tie as tie
 
-sub-unmark : tie.Need-sub-unmark
-sub-unmark c = search needs
-
-cast-unmark : tie.Need-cast-unmark
-cast-unmark c = search needs
-
-unmark-requires : tie.Need-unmark-requires
-unmark-requires c κs = search needs
-
-sub-unmark-2 : tie.Need-sub-unmark-2
-sub-unmark-2 c = search needs
-
-cast-unmark-2 : tie.Need-cast-unmark-2
-cast-unmark-2 c = search needs
-
-unmark-requires-2 : tie.Need-unmark-requires-2
-unmark-requires-2 c κs = search needs
+unmark-area-requires : tie.Need-unmark-area-requires
+unmark-area-requires c κs = search needs
 
 sub-mark : tie.Need-sub-mark
 sub-mark c = search needs
@@ -46,21 +31,17 @@ same-length-2 c = search needs
 
 returns : tie.Need-returns
 returns c =
-    let a = c .before .before .before .before .before .before .before .before .before .before .before .before .before .before .before .args in
-    let t = c .before .before .before .mark .ensures ∙ ap (λ (ws : List ℕ). fillSlot (a .w) (a .b .slot) ws (a .from - 1) 1 1) (c .before .before .before .before .before .before .before .unmark2 .ensures) in
-    ap (λ (b : Block). painted b (c .before .before .before .before .before .before .before .before .before .before .before .unmark .last .0) (c .before .before .before .mark .last .0)) (c .shrunk-record .ensures)
-    ∙ ap₂ (λ (u v : List ℕ). painted (shrunk (a .b) (a .from) (a .to)) u v) (c .before .before .before .before .before .before .before .before .before .before .before .unmark .ensures) t
+    let a = c .before .before .before .before .before .before .before .before .before .before .before .before .before .before .args in
+    let free = c .before .before .before .before .before .before .before .before .before .unmark-area in
+    let t = c .before .before .before .mark .ensures ∙ ap (λ (ws : List ℕ). fillSlot (a .w) (a .b .slot) ws (a .from - 1) 1 1) (free .ensures .1) in
+    ap (λ (b : Block). painted b (free .last .0) (c .before .before .before .mark .last .0)) (c .shrunk-record .ensures)
+    ∙ ap₂ (λ (u v : List ℕ). painted (shrunk (a .b) (a .from) (a .to)) u v) (free .ensures .0) t
 
 pub mark-shrunk-area-spec : {M : Type 1} → statement M
 mark-shrunk-area-spec =
     tie.close
     (tie.spec
-    sub-unmark
-    cast-unmark
-    unmark-requires
-    sub-unmark-2
-    cast-unmark-2
-    unmark-requires-2
+    unmark-area-requires
     sub-mark
     cast-mark
     mark-requires
