@@ -173,7 +173,7 @@ module _ (P : Turn → Type 0) (s : State) (u t : List ℕ) where
 
       -- ---- shrink
       pub shrink-cases : (size : ℕ) → P (releaseTurn s u t a)
-          → ((j i e n : ℕ) → Holds s u t a j i e → P (turn (Shrunk (span a (bytesOf n (unitOf s (blockAt s j))))) s u t))
+          → ((j i e n : ℕ) → Holds s u t a j i e → n ≡ e - i → P (turn (Shrunk (span a (bytesOf n (unitOf s (blockAt s j))))) s u t))
           → ((j i e n : ℕ) → Cuts s u t a size j i e n → P (cutTurn s u t a j i e n))
           → P (shrinkTurn s u t a size)
       unfolding shrinkTurn
@@ -198,7 +198,7 @@ module _ (P : Turn → Type 0) (s : State) (u t : List ℕ) where
               (λ c.
               picked P (ltb (e - i) n) (refuse InvalidState s u t) _ (λ p. refused InvalidState)
               (λ p.
-              picked P (eqb n (e - i)) (turn (Shrunk (span a (bytesOf n (unitOf s (blockAt s j))))) s u t) (cutTurn s u t a j i e n) (λ q. same j i e n h)
+              picked P (eqb n (e - i)) (turn (Shrunk (span a (bytesOf n (unitOf s (blockAt s j))))) s u t) (cutTurn s u t a j i e n) (λ q. same j i e n h (eqb-true n (e - i) q))
               (λ q. does j i e n (record {
                 holds = h;
                 counted = ltb-false (blockAt s j .used) (e - i) c;

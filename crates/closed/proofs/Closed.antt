@@ -177,7 +177,7 @@ module _ (s : State) (u t : List ℕ) (z : Sized s) where
 
     shrink-either : (a size : ℕ) → Either (step s u t (shrink a size))
     shrink-either a size =
-        shrink-cases Either s u t (λ why. inl good) a size (release-either a) (λ j i e n k. inl good) (λ j i e n k. decide (cutTurn s u t a j i e n) tt (cut a size j i e n k))
+        shrink-cases Either s u t (λ why. inl good) a size (release-either a) (λ j i e n k same. inl good) (λ j i e n k. decide (cutTurn s u t a j i e n) tt (cut a size j i e n k))
 
     -- with the words as they are afterwards
     as-left : (c : Call) → Keeps u t (step s u t c) → Good (step s u t c)

@@ -110,7 +110,7 @@ module _ (s : State) (u t : List ℕ) (z : Sized s) where
       marked-sized (inserted r _) (sized-inserted r (sized-search s z u (poolFor s bytes) (unitsFor s bytes)) _) u t (r .count) 0 (unitsFor s bytes))
   sized-kept (release a) = released a
   sized-kept (shrink a size) =
-      shrink-cases Left s u t (λ why. z) a size (released a) (λ j i e n k. z)
+      shrink-cases Left s u t (λ why. z) a size (released a) (λ j i e n k same. z)
       (λ j i e n k. sized-less s z j (markShrunk (s .w) (blockAt s j) (i + n) e u t .block) (e - (i + n)))
   sized-kept (query a) = query-cases Left s u t (λ why. z) a (λ j i e k. z)
   sized-kept softReset = reset-cases Left s u t (λ why. z) false (λ e. sized-empty s) (λ e i. sized-kept-blocks s (s .count))

@@ -141,7 +141,7 @@ module _ (s : State) (u t : List ℕ) (z : Sized s) where
       create-cases (Long u t) s u t a (λ e. (refl, refl)) (λ e. created-long a u t)
   words-kept (alloc size) = alloc-cases (Long u t) s u t (λ why. (refl, refl)) size (λ bytes k. (refl, refl)) (hit size) (make size)
   words-kept (release a) = released-long a
-  words-kept (shrink a size) = shrink-cases (Long u t) s u t (λ why. (refl, refl)) a size (released-long a) (λ j i e n k. (refl, refl)) (cut a size)
+  words-kept (shrink a size) = shrink-cases (Long u t) s u t (λ why. (refl, refl)) a size (released-long a) (λ j i e n k same. (refl, refl)) (cut a size)
   words-kept (query a) = query-cases (Long u t) s u t (λ why. (refl, refl)) a (λ j i e k. (refl, refl))
   words-kept softReset = reset-cases (Long u t) s u t (λ why. (refl, refl)) false cleared (λ e i. cleared e)
   words-kept hardReset = reset-cases (Long u t) s u t (λ why. (refl, refl)) true cleared (λ e i. cleared e)

@@ -95,7 +95,7 @@ module _ (s : State) (u t : List ℕ) (p : Words u) (q : Words t) where
       (λ bytes at slot k m. make-words (searchFor s u bytes .state) u t p q (poolFor s bytes) (unitsFor s bytes) (newSize (searchFor s u bytes .state) (poolFor s bytes) bytes) at slot)
   step-words (release a) = release-words a
   step-words (shrink a size) =
-      shrink-cases Wordy s u t (λ why. (p, q)) a size (release-words a) (λ j i e n k. (p, q))
+      shrink-cases Wordy s u t (λ why. (p, q)) a size (release-words a) (λ j i e n k same. (p, q))
       (λ j i e n k. (
         fill-words (s .w) (blockAt s j .slot) u (i + n) (e - (i + n)) 0 (lit< tt) p,
         fill-words (s .w) (blockAt s j .slot) (fillSlot (s .w) (blockAt s j .slot) t (e - 1) 1 0) (i + n - 1) 1 1 (lit< tt) (fill-words (s .w) (blockAt s j .slot) t (e - 1) 1 0 (lit< tt) q),
