@@ -1,0 +1,13 @@
+-- Spans that lie in a range of addresses below 2^48: what a fill asks. Assumes nothing.
+use Prim.Native.Nat.{ℕ, _+_, _≤_, _^_}
+use mathlib.Core.List.{List, [], _∷_}
+use Rattle.state.specs.declared.Span.{Span}
+
+pub record Within (arena length : ℕ) (x : Span) : Type 0 where
+  pub low : arena ≤ x .address
+  pub high : x .address + x .size ≤ arena + length
+  pub top : x .address + x .size ≤ 2 ^ 48
+
+abbrev pub AllWithin : ℕ → ℕ → List Span → Type 0
+AllWithin arena length [] = Unit {0}
+AllWithin arena length (x ∷ xs) = Within arena length x × AllWithin arena length xs
