@@ -1,0 +1,262 @@
+-- A call with an image is the call without one, or a refusal that changes nothing; and what each call fills lies in the arena. Assumes nothing.
+use Prim.Native.Nat.{ℕ, _+_, _-_, _*_, _≤_, _<_}
+use mathlib.Core.Bool.{Bool, true, false, not, _||_}
+use mathlib.Core.List.{List, [], _∷_}
+use mathlib.Core.Path.{_≡_, refl, sym, ap, subst, subst₂, _∙_}
+use native.Mathlib.Nat.{le-refl}
+use native.Mathlib.Omega.{arith}
+use borrow.Author.Tests.{eq-eqb, ne-eqb}
+use lib.Dec.{eqb}
+use lib.ListN.{length}
+use Rattle.numbers.specs.Pick.{pick}
+use Rattle.numbers.specs.Units.{bytesOf}
+use Rattle.block.specs.Marking.{markReleased}
+use Rattle.state.specs.declared.State.{State}
+use Rattle.state.specs.declared.Span.{Span}
+use Rattle.state.specs.declared.Found.{Found}
+use Rattle.state.specs.declared.Held.{Held}
+use Rattle.state.specs.declared.Refusal.{Refusal}
+use Rattle.state.specs.declared.Refusal.the-variants.{InvalidArgument, BadShape}
+use Rattle.state.specs.declared.Answer.{Answer}
+use Rattle.state.specs.declared.Answer.the-variants.{Released, Shrunk, Shown, Reset, Refused}
+use Rattle.state.specs.declared.Outcome.{Outcome}
+use Rattle.state.specs.Outcome.{refusal}
+use Rattle.state.specs.Table.{blockAt}
+use Rattle.state.specs.Shape.{goodShape, badShape}
+use Rattle.state.specs.Find.{lookup}
+use Rattle.shape.proofs.Shaped.{shaped-is}
+use Rattle.rules.specs.Turn.{Turn, turn, refuse, span, withLive, unitOf}
+use Rattle.rules.specs.Span.{shownTurn, queriedTurn, queryTurn}
+use Rattle.rules.specs.Alloc.{markTurn, makeTurn, allocTurn}
+use Rattle.rules.specs.Release.{lessUsed, settle, freeTurn, releaseTurn}
+use Rattle.rules.specs.Shrink.{cutTurn, cutDownTurn, shrinkTurn}
+use Rattle.rules.specs.Reset.{emptyTable, clearBlocks, kept, resetTurn}
+use Rattle.rules.specs.Machine.{Call, create, alloc, release, shrink, query, softReset, hardReset, step}
+use Rattle.facts.proofs.Facts.{count-64}
+use Rattle.facts.proofs.Searched.{search-other}
+use Rattle.closed.specs.Sized.{Sized}
+use Rattle.closed.specs.Closed.{Good}
+use Rattle.closed.proofs.Cases.{Holds, Frees, Cuts, Seeks, poolFor, unitsFor, searchFor, newSize, settle-cases, release-cases, shrink-cases, reset-cases, alloc-cases}
+use Rattle.closed.proofs.Kept.{kept-other}
+use Rattle.closed.proofs.Closed.{closed-other}
+use Rattle.unused.specs.Unused.{made, freed, behind, cutOff, keptBytes, blocksUpTo, unused, filled, imageAfter, lent, lentStep}
+use Rattle.unused.specs.Within.{Within, AllWithin}
+use Rattle.unused.proofs.Unused.{made-none, filled-none}
+use Rattle.filling.proofs.Inside.{span-inside, tail-inside, blocks-inside, made-inside}
+
+-- ---- the call
+module _ (s : State) (u t : List ℕ) (bytes : ℕ) where
+  -- an image of another length
+  pub lent-refused : (x : Turn) → (bytes ≡ s .length → ⊥) → lent s u t bytes x ≡ refuse (pick (badShape s (length u) (length t)) BadShape InvalidArgument) s u t
+  lent-refused x ne = ap (λ (b : Bool). pick (badShape s (length u) (length t)) (refuse BadShape s u t) (pick b x (refuse InvalidArgument s u t))) (ne-eqb bytes (s .length) ne) ∙ go (badShape s (length u) (length t))
+    where
+      go : (b : Bool) → pick b (refuse BadShape s u t) (refuse InvalidArgument s u t) ≡ refuse (pick b BadShape InvalidArgument) s u t
+      go true = refl
+      go false = refl
+
+  -- one of the arena's: a bad shape is refused by the call itself
+  pub lent-granted : (y : Turn) → bytes ≡ s .length → let x = pick (badShape s (length u) (length t)) (refuse BadShape s u t) y in lent s u t bytes x ≡ x
+  lent-granted y e =
+      ap (λ (b : Bool). pick bad (refuse BadShape s u t) (pick b (pick bad (refuse BadShape s u t) y) (refuse InvalidArgument s u t))) (eq-eqb bytes (s .length) e) ∙ go bad
+    where
+      bad : Bool
+      bad = badShape s (length u) (length t)
+
+      go : (b : Bool) → pick b (refuse BadShape s u t) (pick b (refuse BadShape s u t) y) ≡ pick b (refuse BadShape s u t) y
+      go true = refl
+      go false = refl
+
+  pub alloc-lent : (size : ℕ) → bytes ≡ s .length → lentStep s u t bytes (alloc size) ≡ allocTurn s u t size
+  unfolding allocTurn
+  alloc-lent size e = lent-granted _ e
+
+  pub release-lent : (a : ℕ) → bytes ≡ s .length → lentStep s u t bytes (release a) ≡ releaseTurn s u t a
+  unfolding releaseTurn
+  release-lent a e = lent-granted _ e
+
+  pub reset-lent : (hard : Bool) → bytes ≡ s .length → lent s u t bytes (resetTurn s u t hard) ≡ resetTurn s u t hard
+  unfolding resetTurn
+  reset-lent hard e = lent-granted _ e
+
+  pub shrink-lent : (a size : ℕ) → bytes ≡ s .length → lentStep s u t bytes (shrink a size) ≡ shrinkTurn s u t a size
+  unfolding shrinkTurn
+  shrink-lent a size e = go (eqb size 0)
+    where
+      go : (b : Bool) → let x = pick b (releaseTurn s u t a) (pick (badShape s (length u) (length t)) (refuse BadShape s u t) (pick (eqb a 0) (refuse InvalidArgument s u t) (cutDownTurn s u t a size (lookup s a)))) in lent s u t bytes x ≡ x
+      go true = release-lent a e
+      go false = lent-granted _ e
+
+-- ---- what it fills
+module _ (s : State) (u t : List ℕ) where
+  abbrev In : List Span → Type 0
+  In xs = AllWithin (s .arena) (s .length) xs
+
+  pub alloc-inside : Sized s → (size : ℕ) → In (made (s .count) (allocTurn s u t size .state))
+  alloc-inside z size = alloc-cases P s u t (λ why g. none s (le-refl (s .count)))
+      size (λ bytes k g. none (searchFor s u bytes .state) (few bytes))
+      (λ bytes j i k e g. none (markTurn (searchFor s u bytes .state) u t j i (unitsFor s bytes) .state) (few bytes))
+      (λ bytes at slot k p g.
+      let r = searchFor s u bytes .state in
+      let x = makeTurn r u t (poolFor s bytes) (unitsFor s bytes) (newSize r (poolFor s bytes) bytes) at slot in
+      let o = search-other s u (poolFor s bytes) (unitsFor s bytes) in
+      subst₂ (λ (base n : ℕ). AllWithin base n (made (s .count) (x .state))) (ap (λ (y : State). y .arena) o) (ap (λ (y : State). y .length) o)
+      (made-inside (x .state) (length (x .used)) (length (x .stop)) (shaped-is (x .state) (length (x .used)) (length (x .stop)) (g (k .good))) (s .count)))
+      (λ good. closed-other s u t (alloc size) z good (λ f. f))
+    where
+      P : Turn → Type 0
+      P x = (goodShape s (length u) (length t) ≡ true → Good x) → In (made (s .count) (x .state))
+
+      none : (r : State) → r .count ≤ s .count → In (made (s .count) r)
+      none r h = subst In (sym (made-none (s .count) r h)) tt
+
+      few : (bytes : ℕ) → searchFor s u bytes .state .count ≤ s .count
+      few bytes = omega (arith, ap (λ (r : State). r .count) (search-other s u (poolFor s bytes) (unitsFor s bytes)))
+
+  -- a released span, whatever becomes of its block
+  settled : (answer : Answer) (r : State) (v w : List ℕ) (j : ℕ) → settle answer r v w j .answer ≡ answer
+  settled answer r v w j = settle-cases (λ (x : Turn). x .answer ≡ answer) r v w answer j (λ e. refl) (λ e d. refl) (λ e d f. refl)
+
+  free-answer : (a j i e : ℕ) → freeTurn s u t a j i e .answer ≡ Released (span a (bytesOf (e - i) (unitOf s (blockAt s j))))
+  free-answer a j i e =
+      let b = markReleased (s .w) (blockAt s j) i e u t in
+      settled (Released (span a (bytesOf (e - i) (unitOf s (blockAt s j))))) (withLive (lessUsed s j (b .block) (e - i)) (s .live - 1)) (b .used) (b .stop) j
+
+  pub release-inside : (a : ℕ) → In (freed (releaseTurn s u t a .answer))
+  release-inside a =
+      release-cases (λ (x : Turn). In (freed (x .answer))) s u t (λ why. tt) a
+      (λ j i e k. subst (λ (x : Answer). In (freed x)) (sym (free-answer a j i e)) (span-inside s u t a j i e (k .holds), tt))
+
+  -- a query shows the span that stands there
+  shows : (a j i e : ℕ) → Holds s u t a j i e → queryTurn s u t a .answer ≡ Shown (span a (bytesOf (e - i) (unitOf s (blockAt s j))))
+  unfolding queryTurn
+  shows a j i e h =
+      ap (λ (b : Bool). pick (not b) (refuse BadShape s u t) (queriedTurn s u t a (lookup s a)) .answer) (h .good)
+      ∙ ap (λ (f : Found). queriedTurn s u t a f .answer) (sym (h .found))
+      ∙ ap (λ (x : Held). shownTurn s u t a j x .answer) (h .held)
+
+  cut-inside : (a j i e n : ℕ) → Holds s u t a j i e → n ≤ e - i → In (behind (span a (bytesOf n (unitOf s (blockAt s j)))) (queryTurn s u t a .answer))
+  cut-inside a j i e n h l =
+      subst (λ (x : Answer). In (behind (span a (bytesOf n (unitOf s (blockAt s j)))) x)) (sym (shows a j i e h)) (tail-inside s u t a j i e h n l, tt)
+
+  pub shrink-inside : (a size : ℕ) → In (cutOff (queryTurn s u t a .answer) (shrinkTurn s u t a size .answer))
+  shrink-inside a size =
+      shrink-cases P s u t (λ why. tt) a size
+      (release-cases P s u t (λ why. tt) a (λ j i e k. subst (λ (x : Answer). In (cutOff was x)) (sym (free-answer a j i e)) (span-inside s u t a j i e (k .holds), tt)))
+      (λ j i e n h q. cut-inside a j i e n h (omega (arith, q)))
+      (λ j i e n k. cut-inside a j i e n (k .holds) (omega (arith, k .less)))
+    where
+      was : Answer
+      was = queryTurn s u t a .answer
+
+      P : Turn → Type 0
+      P x = In (cutOff was (x .answer))
+
+  reset-inside : (hard : Bool) → (goodShape s (length u) (length t) ≡ true → Good (resetTurn s u t hard)) → In (keptBytes (resetTurn s u t hard .state) (resetTurn s u t hard .answer))
+  reset-inside hard =
+      reset-cases P s u t (λ why g. tt) hard (λ good g. all (emptyTable s) refl refl (g good))
+      (λ good off g. all (kept s (s .count)) (ap (λ (y : State). y .arena) (kept-other s (s .count))) (ap (λ (y : State). y .length) (kept-other s (s .count))) (g good))
+    where
+      cleared : List ℕ → List ℕ
+      cleared ws = clearBlocks s (s .count) ws
+
+      P : Turn → Type 0
+      P x = (goodShape s (length u) (length t) ≡ true → Good x) → In (keptBytes (x .state) (x .answer))
+
+      all : (r : State) → r .arena ≡ s .arena → r .length ≡ s .length → goodShape r (length (cleared u)) (length (cleared t)) ≡ true → In (blocksUpTo r (r .count))
+      all r a n g =
+          subst₂ (λ (base k : ℕ). AllWithin base k (blocksUpTo r (r .count))) a n
+          (blocks-inside r (length (cleared u)) (length (cleared t)) (shaped-is r (length (cleared u)) (length (cleared t)) g) (r .count) (le-refl (r .count)))
+
+  pub soft-inside : Sized s → In (keptBytes (step s u t softReset .state) (step s u t softReset .answer))
+  soft-inside z = reset-inside false (λ good. closed-other s u t softReset z good (λ f. f))
+
+  pub hard-inside : Sized s → In (keptBytes (step s u t hardReset .state) (step s u t hardReset .answer))
+  hard-inside z = reset-inside true (λ good. closed-other s u t hardReset z good (λ f. f))
+
+  -- ---- for the functions: what a fill asks, of a turn that is the call's
+  within : (n : ℕ) → n ≡ s .length → (xs ys : List Span) → xs ≡ ys → In ys → AllWithin (s .arena) n xs
+  within n l xs ys e w = subst₂ (λ (k : ℕ) (zs : List Span). AllWithin (s .arena) k zs) (sym l) (sym e) w
+
+  pub alloc-asks : Sized s → (size : ℕ) (x : Turn) → x ≡ allocTurn s u t size → (n : ℕ) → n ≡ s .length → AllWithin (s .arena) n (made (s .count) (x .state))
+  alloc-asks z size x e n l = within n l _ _ (ap (λ (y : Turn). made (s .count) (y .state)) e) (alloc-inside z size)
+
+  pub release-asks : (a : ℕ) (x : Turn) → x ≡ releaseTurn s u t a → (n : ℕ) → n ≡ s .length → AllWithin (s .arena) n (freed (x .answer))
+  release-asks a x e n l = within n l _ _ (ap (λ (y : Turn). freed (y .answer)) e) (release-inside a)
+
+  pub shrink-asks : (a size : ℕ) (was : Answer) → was ≡ queryTurn s u t a .answer → (x : Turn) → x ≡ shrinkTurn s u t a size → (n : ℕ) → n ≡ s .length
+      → AllWithin (s .arena) n (cutOff was (x .answer))
+  shrink-asks a size was q x e n l =
+      within n l _ _ (ap (λ (w : Answer). cutOff w (x .answer)) q ∙ ap (λ (y : Turn). cutOff (queryTurn s u t a .answer) (y .answer)) e) (shrink-inside a size)
+
+  pub soft-asks : Sized s → (x : Turn) → x ≡ step s u t softReset → (n : ℕ) → n ≡ s .length → AllWithin (s .arena) n (keptBytes (x .state) (x .answer))
+  soft-asks z x e n l = within n l _ _ (ap (λ (y : Turn). keptBytes (y .state) (y .answer)) e) (soft-inside z)
+
+  pub hard-asks : Sized s → (x : Turn) → x ≡ step s u t hardReset → (n : ℕ) → n ≡ s .length → AllWithin (s .arena) n (keptBytes (x .state) (x .answer))
+  hard-asks z x e n l = within n l _ _ (ap (λ (y : Turn). keptBytes (y .state) (y .answer)) e) (hard-inside z)
+
+-- ---- the image afterwards
+module _ (s : State) (u t : List ℕ) (pattern : ℕ) (image : List ℕ) where
+  -- a refusal fills nothing
+  unused-refused : (c : Call) (why : Refusal) → unused s u t c (refuse why s u t) ≡ []
+  unused-refused (create a) why = refl
+  unused-refused (alloc size) why = made-none (s .count) s (le-refl (s .count))
+  unused-refused (release a) why = refl
+  unused-refused (shrink a size) why = refl
+  unused-refused (query a) why = refl
+  unused-refused softReset why = refl
+  unused-refused hardReset why = refl
+
+  abbrev Is : Call → Turn → List ℕ → Type 0
+  Is c x after = (x ≡ lentStep s u t (length image) c) × (after ≡ imageAfter s u t pattern image c)
+
+  -- a call, and the fill of what it leaves unused
+  pub does : (c : Call) (x : Turn) (after : List ℕ) → x ≡ step s u t c → lentStep s u t (length image) c ≡ step s u t c
+      → after ≡ filled (s .arena) pattern image (unused s u t c x) → Is c x after
+  does c x after e l f = (e ∙ sym l, f ∙ ap (λ (y : Turn). filled (s .arena) pattern image (unused s u t c y)) (e ∙ sym l))
+
+  pub not-lent : (c : Call) (r : Outcome) → (length image ≡ s .length → ⊥)
+      → r ≡ refusal s (pick (badShape s (length u) (length t)) BadShape InvalidArgument) → Is c (turn (r .answer) (r .state) u t) image
+  not-lent c r ne e =
+      let why = pick (badShape s (length u) (length t)) BadShape InvalidArgument in
+      let same : refuse why s u t ≡ lentStep s u t (length image) c = sym (lent-refused s u t (length image) (step s u t c) ne) in (
+        ap (λ (o : Outcome). turn (o .answer) (o .state) u t) e ∙ same,
+        sym (filled-none (s .arena) pattern image) ∙ ap (filled (s .arena) pattern image) (sym (unused-refused c why))
+            ∙ ap (λ (y : Turn). filled (s .arena) pattern image (unused s u t c y)) same,
+      )
+
+-- ---- the table has room for what is made or kept
+module _ (s : State) (u t : List ℕ) where
+  pub made-few : Sized s → (size : ℕ) → s .count < allocTurn s u t size .state .count → s .count < 64
+  made-few z size = alloc-cases P s u t (λ why g h. absurd (omega (arith, h)))
+      size (λ bytes k g h. absurd (omega (arith, h, same bytes)))
+      (λ bytes j i k e g h. absurd (omega (arith, h, same bytes)))
+      (λ bytes at slot k p g h.
+      let r = searchFor s u bytes .state in
+      let x = makeTurn r u t (poolFor s bytes) (unitsFor s bytes) (newSize r (poolFor s bytes) bytes) at slot in
+      omega (arith, h, count-64 (x .state) (length (x .used)) (length (x .stop)) (shaped-is (x .state) (length (x .used)) (length (x .stop)) (g (k .good)))))
+      (λ good. closed-other s u t (alloc size) z good (λ f. f))
+    where
+      P : Turn → Type 0
+      P x = (goodShape s (length u) (length t) ≡ true → Good x) → s .count < x .state .count → s .count < 64
+
+      same : (bytes : ℕ) → searchFor s u bytes .state .count ≡ s .count
+      same bytes = ap (λ (r : State). r .count) (search-other s u (poolFor s bytes) (unitsFor s bytes))
+
+  kept-few : (hard : Bool) → (goodShape s (length u) (length t) ≡ true → Good (resetTurn s u t hard)) → resetTurn s u t hard .answer ≡ Reset → resetTurn s u t hard .state .count ≤ 64
+  kept-few hard =
+      reset-cases P s u t (λ why g e. let z : _≡_ {A = ℕ} 0 1 = cc in absurd (omega arith)) hard (λ good g e. few (emptyTable s) (g good))
+      (λ good off g e. few (kept s (s .count)) (g good))
+    where
+      P : Turn → Type 0
+      P x = (goodShape s (length u) (length t) ≡ true → Good x) → x .answer ≡ Reset → x .state .count ≤ 64
+
+      few : (r : State) → goodShape r (length (clearBlocks s (s .count) u)) (length (clearBlocks s (s .count) t)) ≡ true → r .count ≤ 64
+      few r g =
+          count-64 r (length (clearBlocks s (s .count) u)) (length (clearBlocks s (s .count) t))
+          (shaped-is r (length (clearBlocks s (s .count) u)) (length (clearBlocks s (s .count) t)) g)
+
+  pub soft-few : Sized s → step s u t softReset .answer ≡ Reset → step s u t softReset .state .count ≤ 64
+  soft-few z = kept-few false (λ good. closed-other s u t softReset z good (λ f. f))
+
+  pub hard-few : Sized s → step s u t hardReset .answer ≡ Reset → step s u t hardReset .state .count ≤ 64
+  hard-few z = kept-few true (λ good. closed-other s u t hardReset z good (λ f. f))

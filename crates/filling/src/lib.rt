@@ -1,0 +1,133 @@
+// The calls with an image of the arena lent to them: what a call leaves unused is filled by a pattern.
+use state::Outcome;
+use state::Refusal;
+use state::State;
+ghost use mathlib.Core.Path.{_≡_};
+ghost use lib.ListN.{length};
+ghost use Rattle.numbers.specs.Pick.{pick};
+ghost use Rattle.state.specs.declared.Refusal.the-variants.{InvalidArgument, BadShape};
+ghost use Rattle.state.specs.Shape.{badShape};
+ghost use Rattle.state.specs.Outcome.{refusal};
+ghost use Rattle.rules.specs.Turn.{turn};
+ghost use Rattle.rules.specs.Machine.{alloc, release, shrink, softReset, hardReset};
+ghost use Rattle.unused.specs.Unused.{lentStep, imageAfter};
+
+// What a call answers where the image is not as long as the arena: a bad shape comes first.
+fn not_lent(s: State, used: usize, stop: usize) -> Outcome
+    ensures { λ r. ⌜ r ≡ refusal s (pick (badShape s used stop) BadShape InvalidArgument) ⌝ }
+{
+    if !whole::shape_ok(s, used, stop) {
+        return state::refused(s, Refusal::BadShape);
+    }
+    state::refused(s, Refusal::InvalidArgument)
+}
+
+// A span of at least `size` bytes; a new block is filled.
+pub fn alloc(
+    s: State,
+    used: &mut [u32],
+    stop: &mut [u32],
+    image: &mut [u8],
+    pattern: u32,
+    size: u64,
+) -> Outcome
+    ensures { λ r. ⌜ turn (r .answer) (r .state) (now (used .exit)) (now (stop .exit)) ≡ lentStep s (now (used .entry)) (now (stop .entry)) (length (now (image .entry))) (alloc size) ⌝ }
+    ensures { λ _. ⌜ now (image .exit) ≡ imageAfter s (now (used .entry)) (now (stop .entry)) pattern (now (image .entry)) (alloc size) ⌝ }
+{
+    if image.len() as u64 != s.length {
+        return not_lent(s, used.len(), stop.len());
+    }
+    let arena = s.arena;
+    let before = s.count;
+    let r = alloc::alloc(s, used, stop, size);
+    unused::fill_made(image, arena, before, r.state, pattern);
+    r
+}
+
+// The span that starts at an address goes, and its bytes are filled.
+pub fn release(
+    s: State,
+    used: &mut [u32],
+    stop: &mut [u32],
+    image: &mut [u8],
+    pattern: u32,
+    address: u64,
+) -> Outcome
+    ensures { λ r. ⌜ turn (r .answer) (r .state) (now (used .exit)) (now (stop .exit)) ≡ lentStep s (now (used .entry)) (now (stop .entry)) (length (now (image .entry))) (release address) ⌝ }
+    ensures { λ _. ⌜ now (image .exit) ≡ imageAfter s (now (used .entry)) (now (stop .entry)) pattern (now (image .entry)) (release address) ⌝ }
+{
+    if image.len() as u64 != s.length {
+        return not_lent(s, used.len(), stop.len());
+    }
+    let arena = s.arena;
+    let r = release::release(s, used, stop, address);
+    let answer = r.answer;
+    unused::fill_freed(image, arena, answer, pattern);
+    r
+}
+
+// The span that starts at an address keeps the units that `size` bytes take, and the bytes behind them are filled; without a byte it goes.
+pub fn shrink(
+    s: State,
+    used: &mut [u32],
+    stop: &mut [u32],
+    image: &mut [u8],
+    pattern: u32,
+    address: u64,
+    size: u64,
+) -> Outcome
+    ensures { λ r. ⌜ turn (r .answer) (r .state) (now (used .exit)) (now (stop .exit)) ≡ lentStep s (now (used .entry)) (now (stop .entry)) (length (now (image .entry))) (shrink address size) ⌝ }
+    ensures { λ _. ⌜ now (image .exit) ≡ imageAfter s (now (used .entry)) (now (stop .entry)) pattern (now (image .entry)) (shrink address size) ⌝ }
+{
+    if image.len() as u64 != s.length {
+        return not_lent(s, used.len(), stop.len());
+    }
+    let arena = s.arena;
+    let was = query::query(s, used, stop, address);
+    let r = shrink::shrink(s, used, stop, address, size);
+    let answer = r.answer;
+    unused::fill_cut_off(image, arena, was, answer, pattern);
+    r
+}
+
+// All blocks go, and nothing is filled in them.
+pub fn hard_reset(
+    s: State,
+    used: &mut [u32],
+    stop: &mut [u32],
+    image: &mut [u8],
+    pattern: u32,
+) -> Outcome
+    ensures { λ r. ⌜ turn (r .answer) (r .state) (now (used .exit)) (now (stop .exit)) ≡ lentStep s (now (used .entry)) (now (stop .entry)) (length (now (image .entry))) hardReset ⌝ }
+    ensures { λ _. ⌜ now (image .exit) ≡ imageAfter s (now (used .entry)) (now (stop .entry)) pattern (now (image .entry)) hardReset ⌝ }
+{
+    if image.len() as u64 != s.length {
+        return not_lent(s, used.len(), stop.len());
+    }
+    let arena = s.arena;
+    let r = reset::hard_reset(s, used, stop);
+    let answer = r.answer;
+    unused::fill_kept(image, arena, r.state, answer, pattern);
+    r
+}
+
+// Each pool keeps its oldest block, emptied, and all of its bytes are filled.
+pub fn soft_reset(
+    s: State,
+    used: &mut [u32],
+    stop: &mut [u32],
+    image: &mut [u8],
+    pattern: u32,
+) -> Outcome
+    ensures { λ r. ⌜ turn (r .answer) (r .state) (now (used .exit)) (now (stop .exit)) ≡ lentStep s (now (used .entry)) (now (stop .entry)) (length (now (image .entry))) softReset ⌝ }
+    ensures { λ _. ⌜ now (image .exit) ≡ imageAfter s (now (used .entry)) (now (stop .entry)) pattern (now (image .entry)) softReset ⌝ }
+{
+    if image.len() as u64 != s.length {
+        return not_lent(s, used.len(), stop.len());
+    }
+    let arena = s.arena;
+    let r = reset::soft_reset(s, used, stop);
+    let answer = r.answer;
+    unused::fill_kept(image, arena, r.state, answer, pattern);
+    r
+}
