@@ -1,4 +1,4 @@
--- Document 02, request 1: a write into a span. Assumes nothing.
+-- Document 01, Filling: a write into a span. Assumes nothing.
 use Prim.Native.Nat.{ℕ, _+_, _-_}
 use mathlib.Core.List.{List}
 use lib.Dec.{leb}

@@ -151,10 +151,16 @@ module _ (s : State) (u t : List ℕ) where
       P : Turn → Type 0
       P x = In (cutOff was (x .answer))
 
-  reset-inside : (hard : Bool) → (goodShape s (length u) (length t) ≡ true → Good (resetTurn s u t hard)) → In (keptBytes (resetTurn s u t hard .state) (resetTurn s u t hard .answer))
-  reset-inside hard =
+  -- a reset leaves no bad shape
+  reset-closed : Sized s → (hard : Bool) → goodShape s (length u) (length t) ≡ true → Good (resetTurn s u t hard)
+  reset-closed z true good = closed-other s u t hardReset z good (λ f. f)
+  reset-closed z false good = closed-other s u t softReset z good (λ f. f)
+
+  pub reset-inside : Sized s → (hard : Bool) → In (keptBytes (resetTurn s u t hard .state) (resetTurn s u t hard .answer))
+  reset-inside z hard =
       reset-cases P s u t (λ why g. tt) hard (λ good g. all (emptyTable s) refl refl (g good))
       (λ good off g. all (kept s (s .count)) (ap (λ (y : State). y .arena) (kept-other s (s .count))) (ap (λ (y : State). y .length) (kept-other s (s .count))) (g good))
+      (reset-closed z hard)
     where
       cleared : List ℕ → List ℕ
       cleared ws = clearBlocks s (s .count) ws
@@ -166,12 +172,6 @@ module _ (s : State) (u t : List ℕ) where
       all r a n g =
           subst₂ (λ (base k : ℕ). AllWithin base k (blocksUpTo r (r .count))) a n
           (blocks-inside r (length (cleared u)) (length (cleared t)) (shaped-is r (length (cleared u)) (length (cleared t)) g) (r .count) (le-refl (r .count)))
-
-  pub soft-inside : Sized s → In (keptBytes (step s u t softReset .state) (step s u t softReset .answer))
-  soft-inside z = reset-inside false (λ good. closed-other s u t softReset z good (λ f. f))
-
-  pub hard-inside : Sized s → In (keptBytes (step s u t hardReset .state) (step s u t hardReset .answer))
-  hard-inside z = reset-inside true (λ good. closed-other s u t hardReset z good (λ f. f))
 
   -- ---- for the functions: what a fill asks, of a turn that is the call's
   within : (n : ℕ) → n ≡ s .length → (xs ys : List Span) → xs ≡ ys → In ys → AllWithin (s .arena) n xs
@@ -188,11 +188,8 @@ module _ (s : State) (u t : List ℕ) where
   shrink-asks a size was q x e n l =
       within n l _ _ (ap (λ (w : Answer). cutOff w (x .answer)) q ∙ ap (λ (y : Turn). cutOff (queryTurn s u t a .answer) (y .answer)) e) (shrink-inside a size)
 
-  pub soft-asks : Sized s → (x : Turn) → x ≡ step s u t softReset → (n : ℕ) → n ≡ s .length → AllWithin (s .arena) n (keptBytes (x .state) (x .answer))
-  soft-asks z x e n l = within n l _ _ (ap (λ (y : Turn). keptBytes (y .state) (y .answer)) e) (soft-inside z)
-
-  pub hard-asks : Sized s → (x : Turn) → x ≡ step s u t hardReset → (n : ℕ) → n ≡ s .length → AllWithin (s .arena) n (keptBytes (x .state) (x .answer))
-  hard-asks z x e n l = within n l _ _ (ap (λ (y : Turn). keptBytes (y .state) (y .answer)) e) (hard-inside z)
+  pub reset-asks : Sized s → (hard : Bool) (x : Turn) → x ≡ resetTurn s u t hard → (n : ℕ) → n ≡ s .length → AllWithin (s .arena) n (keptBytes (x .state) (x .answer))
+  reset-asks z hard x e n l = within n l _ _ (ap (λ (y : Turn). keptBytes (y .state) (y .answer)) e) (reset-inside z hard)
 
 -- ---- the image afterwards
 module _ (s : State) (u t : List ℕ) (pattern : ℕ) (image : List ℕ) where
@@ -242,10 +239,10 @@ module _ (s : State) (u t : List ℕ) where
       same : (bytes : ℕ) → searchFor s u bytes .state .count ≡ s .count
       same bytes = ap (λ (r : State). r .count) (search-other s u (poolFor s bytes) (unitsFor s bytes))
 
-  kept-few : (hard : Bool) → (goodShape s (length u) (length t) ≡ true → Good (resetTurn s u t hard)) → resetTurn s u t hard .answer ≡ Reset → resetTurn s u t hard .state .count ≤ 64
-  kept-few hard =
-      reset-cases P s u t (λ why g e. let z : _≡_ {A = ℕ} 0 1 = cc in absurd (omega arith)) hard (λ good g e. few (emptyTable s) (g good))
-      (λ good off g e. few (kept s (s .count)) (g good))
+  pub kept-few : Sized s → (hard : Bool) → resetTurn s u t hard .answer ≡ Reset → resetTurn s u t hard .state .count ≤ 64
+  kept-few z hard =
+      reset-cases P s u t (λ why g e. let no : _≡_ {A = ℕ} 0 1 = cc in absurd (omega arith)) hard (λ good g e. few (emptyTable s) (g good))
+      (λ good off g e. few (kept s (s .count)) (g good)) (reset-closed s u t z hard)
     where
       P : Turn → Type 0
       P x = (goodShape s (length u) (length t) ≡ true → Good x) → x .answer ≡ Reset → x .state .count ≤ 64
@@ -254,9 +251,3 @@ module _ (s : State) (u t : List ℕ) where
       few r g =
           count-64 r (length (clearBlocks s (s .count) u)) (length (clearBlocks s (s .count) t))
           (shaped-is r (length (clearBlocks s (s .count) u)) (length (clearBlocks s (s .count) t)) g)
-
-  pub soft-few : Sized s → step s u t softReset .answer ≡ Reset → step s u t softReset .state .count ≤ 64
-  soft-few z = kept-few false (λ good. closed-other s u t softReset z good (λ f. f))
-
-  pub hard-few : Sized s → step s u t hardReset .answer ≡ Reset → step s u t hardReset .state .count ≤ 64
-  hard-few z = kept-few true (λ good. closed-other s u t hardReset z good (λ f. f))

@@ -1,4 +1,4 @@
--- Document 02, request 1, filling: a run of bytes filled by a 32-bit pattern, little-endian. Assumes nothing.
+-- Document 01, Filling: a run of bytes filled by a 32-bit pattern, little-endian. Assumes nothing.
 use Prim.Native.Nat.{ℕ, zero, suc, _/_, _%_, _^_}
 use mathlib.Core.List.{List, [], _∷_, _++_}
 use lib.Seq.{sets}

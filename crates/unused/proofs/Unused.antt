@@ -6,7 +6,7 @@ use native.Mathlib.Nat.{eq-or-lt-of-le, le-of-suc-le-suc}
 use native.Mathlib.Numerals.{add-one}
 use native.Mathlib.Omega.{arith}
 use mathlib.Core.Bool.{Bool, true, false}
-use mathlib.Core.Logic.{⊎-elim}
+use mathlib.Core.Logic.{_⊎_, inl, inr, ⊎-elim}
 use borrow.Author.Tests.{lt-ltb, le-ltb}
 use Rattle.numbers.specs.Pick.{pick}
 use types.Run.{OneOf, miss}
@@ -14,9 +14,9 @@ use denote.Enum.Declared.{tagOf}
 use Rattle.state.proofs.Answer.{the-type}
 use Rattle.state.specs.declared.Answer.{Answer}
 use Rattle.state.specs.declared.Answer.the-variants.{Created, Granted, Released, Shrunk, Shown, Reset, Refused}
-use lib.ListN.{length}
+use lib.ListN.{length, getD}
 use Rattle.image.specs.Image.{filledAt}
-use Rattle.image.proofs.Image.{length-filled}
+use Rattle.image.proofs.Image.{length-filled, filled-out}
 use Rattle.state.specs.declared.State.{State}
 use Rattle.state.specs.declared.Span.{Span}
 use Rattle.state.specs.Table.{blockAt}
@@ -115,3 +115,17 @@ kept-none r (Shrunk y) h = refl
 kept-none r (Shown y) h = refl
 kept-none r Reset h = absurd (miss (0 ∷ 1 ∷ 2 ∷ 3 ∷ 4 ∷ 6 ∷ []) 5 tt h)
 kept-none r (Refused why) h = refl
+
+-- ---- the bytes outside all of the spans stay
+abbrev pub Outside : ℕ → List Span → Type 0
+Outside k [] = Unit {0}
+Outside k (x ∷ xs) = ((k < x .address) ⊎ (x .address + x .size ≤ k)) × Outside k xs
+
+pub filled-stays : (arena pattern length k : ℕ) (image : List ℕ) (xs : List Span) → AllWithin arena length xs → arena ≤ k → Outside k xs
+    → getD (filled arena pattern image xs) (k - arena) 0 ≡ getD image (k - arena) 0
+unfolding filled
+filled-stays arena pattern length k image [] w a o = refl
+filled-stays arena pattern length k image (x ∷ xs) w a o =
+    filled-stays arena pattern length k (filledAt image (x .address - arena) (x .size) pattern) xs (w .1) a (o .1)
+    ∙ filled-out image (x .address - arena) (x .size) pattern (k - arena)
+    (⊎-elim (λ p. inl (omega (arith, p, a, w .0 .low))) (λ p. inr (omega (arith, p, a, w .0 .low))) (o .0))

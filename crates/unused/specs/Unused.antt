@@ -1,4 +1,4 @@
--- Document 02, request 1, filling: a call that an image of the arena is lent to, and the bytes that it fills. Assumes nothing.
+-- Document 01, Filling: a call that an image of the arena is lent to, and the bytes that it fills. Assumes nothing.
 use Prim.Native.Nat.{ℕ, zero, suc, _+_, _-_}
 use mathlib.Core.Bool.{Bool, true, false}
 use mathlib.Core.List.{List, [], _∷_, _++_}

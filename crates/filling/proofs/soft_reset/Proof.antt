@@ -10,7 +10,7 @@ use Rattle.rules.specs.Turn.{Turn, turn}
 use Rattle.closed.specs.Sized.{Sized}
 use mathlib.Core.Bool.{true, false}
 use Rattle.state.specs.declared.Answer.the-variants.{Reset}
-use Rattle.filling.proofs.Lent.{not-lent, does, reset-lent, soft-asks, soft-few}
+use Rattle.filling.proofs.Lent.{not-lent, does, reset-lent, reset-asks, kept-few}
 use Rattle.rules.specs.Machine.{softReset}
 use borrow.Author.Needs.{needs}
 use Rattle.filling.proofs.soft_reset.Statement.{statement}
@@ -33,7 +33,7 @@ fill-kept-requires c κs =
     let k = c .before .before .before .before .before .soft-reset in
     let x = turn (k .result .answer) (k .result .state) (k .last .1 .0) (k .last .1 .1 .0) in
     let z : Sized (a .s) = record { blocks = blocks-64 (a .s) _ (c .before .before .before .before .before .before .before .before .before .before .before .before .before .good .0); order = order-64 (a .s) _ (c .before .before .before .before .before .before .before .before .before .before .before .before .before .good .0); pools = pool-3 (a .s) _ (c .before .before .before .before .before .before .before .before .before .before .before .before .before .good .0) } in
-    (subst (λ (y : Turn). y .answer ≡ Reset → y .state .count ≤ 64) (sym (k .ensures)) (soft-few (a .s) (now (a .used)) (now (a .stop)) z), soft-asks (a .s) (now (a .used)) (now (a .stop)) z x (k .ensures) (length (now (a .image))) (omega arith))
+    (subst (λ (y : Turn). y .answer ≡ Reset → y .state .count ≤ 64) (sym (k .ensures)) (kept-few (a .s) (now (a .used)) (now (a .stop)) z false), reset-asks (a .s) (now (a .used)) (now (a .stop)) z false x (k .ensures) (length (now (a .image))) (omega arith))
 
 same-length : tie.Need-same-length
 same-length c = search needs
