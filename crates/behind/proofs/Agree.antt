@@ -2,17 +2,16 @@
 -- reads no word at all. Assumes nothing.
 use Prim.Native.Nat.{ℕ, _*_, _≤_}
 use mathlib.Core.Bool.{Bool, true, false}
-use mathlib.Core.List.{List, _++_}
-use mathlib.Core.Path.{_≡_, refl, sym, ap, ap₂, subst, _∙_}
+use mathlib.Core.List.{List}
+use mathlib.Core.Path.{_≡_, refl, sym, ap, ap₂, _∙_}
 use native.Mathlib.Omega.{arith}
 use lib.ListN.{length, take, drop, replicate, length-replicate, take-append-drop}
 use lib.Seq.{length-take-le, take-at, drop-at}
 use Rattle.numbers.specs.Pick.{pick}
 use Rattle.state.specs.declared.State.{State}
-use Rattle.state.specs.declared.Answer.{Answer}
 use Rattle.state.specs.declared.Refusal.the-variants.{InvalidArgument}
 use Rattle.state.specs.Table.{zeroState}
-use Rattle.rules.specs.Turn.{Turn, turn, refuse}
+use Rattle.rules.specs.Turn.{Turn, refuse}
 use Rattle.rules.specs.Create.{Asked, slotsOf, grantable, granted, createTurn}
 use Rattle.rules.specs.Machine.{Call, step}
 use Rattle.closed.specs.Sized.{Sized}

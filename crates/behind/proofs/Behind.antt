@@ -1,13 +1,11 @@
 -- Every call on a state: words from slots times W on are neither read nor written. Assumes nothing.
-use Prim.Native.Nat.{ℕ, zero, suc, _+_, _-_, _*_, _≤_, _<_}
-use mathlib.Core.Bool.{Bool, true, false, not, _||_}
+use Prim.Native.Nat.{ℕ, _-_, _*_, _≤_, _<_}
+use mathlib.Core.Bool.{Bool, true, false, _||_}
 use mathlib.Core.List.{List, _++_}
 use mathlib.Core.Path.{_≡_, refl, sym, ap, ap₂, subst, _∙_}
-use native.Mathlib.Nat.{zero-add}
 use native.Mathlib.Omega.{arith}
 use lib.Dec.{leb, ltb, eqb}
-use lib.ListN.{length, take, drop, take-append-drop}
-use lib.Seq.{length-take-le, take-at, drop-at}
+use lib.ListN.{length}
 use Rattle.numbers.specs.Pick.{pick}
 use Rattle.numbers.specs.Units.{unitsOf, bytesOf}
 use Rattle.block.specs.declared.Block.{Block}
@@ -25,10 +23,10 @@ use Rattle.state.specs.declared.Held.the-variants.{NoSpan, NoStop, Units}
 use Rattle.state.specs.declared.Hit.{Hit}
 use Rattle.state.specs.declared.Hit.the-variants.{At, Nowhere}
 use Rattle.state.specs.declared.Searched.{Searched}
-use Rattle.state.specs.declared.Refusal.the-variants.{InvalidArgument, InvalidState, NoMapping, BadShape, Damaged}
+use Rattle.state.specs.declared.Refusal.the-variants.{InvalidArgument, InvalidState, NoMapping, Damaged}
 use Rattle.state.specs.declared.Answer.the-variants.{Released, Shrunk, Reset}
 use Rattle.state.specs.Table.{blockAt, poolAt}
-use Rattle.state.specs.Shape.{goodShape, badShape}
+use Rattle.state.specs.Shape.{goodShape}
 use Rattle.state.specs.Find.{lookup, lowestSlot, lowestPlace, newestSize}
 use Rattle.shape.specs.Shaped.{Shaped}
 use Rattle.shape.proofs.Shaped.{shaped-is}
@@ -36,8 +34,8 @@ use Rattle.facts.proofs.Facts.{slot-room, found-in}
 use Rattle.facts.proofs.Room.{slot-is, room-left}
 use Rattle.facts.proofs.Search.{Left, Place as Placed}
 use Rattle.facts.proofs.Leaves.{released-stays}
-use Rattle.rules.specs.Turn.{Turn, turn, refuse, span, withLive, unitOf}
-use Rattle.rules.specs.Alloc.{searchPool, markTurn, makeTurn, placeTurn, searchedTurn, poolTurn, sizeTurn, allocTurn}
+use Rattle.rules.specs.Turn.{turn, refuse, span, withLive, unitOf}
+use Rattle.rules.specs.Alloc.{searchPool, makeTurn, placeTurn, searchedTurn, poolTurn, sizeTurn, allocTurn}
 use Rattle.rules.specs.Span.{heldIn, shownTurn, queriedTurn, queryTurn}
 use Rattle.rules.specs.Release.{lessUsed, settle, freeTurn, releasedTurn, givenBackTurn, releaseTurn}
 use Rattle.rules.specs.Shrink.{cutTurn, unitsTurn, shrunkTurn, cutDownTurn, shrinkTurn}
@@ -48,8 +46,8 @@ use Rattle.closed.proofs.After.{less-block}
 use Rattle.closed.proofs.Cases.{Seeks, poolFor, unitsFor, searchFor}
 use Rattle.closed.proofs.Request.{seeks-some, seeks-left}
 use Rattle.closed.proofs.Sized.{sized-search}
-use Rattle.closed.proofs.Words.{length-fill-slot, words-kept}
-use Rattle.behind.specs.Behind.{behind, OnState, Agree}
+use Rattle.closed.proofs.Words.{length-fill-slot}
+use Rattle.behind.specs.Behind.{behind, OnState}
 use Rattle.behind.proofs.Lists.{fill-behind}
 use Rattle.behind.proofs.Turns.{pick-behind, Room, bad-behind, held-behind, mark-behind, cut-behind, settle-behind, search-behind, make-behind, clear-blocks-behind}
 

@@ -4,20 +4,19 @@ use mathlib.Core.Bool.{Bool, true, false, not, _||_}
 use mathlib.Core.List.{List, _++_}
 use mathlib.Core.Path.{_≡_, refl, sym, ap, ap₂, subst, _∙_}
 use native.Mathlib.Omega.{arith}
-use lib.Dec.{leb, ltb, eqb}
+use lib.Dec.{eqb}
 use lib.ListN.{length, length-append}
 use lib.Seq.{getD-set-other}
 use borrow.Author.Tests.{le-leb}
 use Rattle.numbers.specs.Pick.{pick}
-use Rattle.numbers.specs.Units.{unitsOf, bytesOf}
+use Rattle.numbers.specs.Units.{unitsOf}
 use Rattle.slots.specs.Slots.{fillSlot}
 use Rattle.block.specs.declared.Block.{Block}
 use Rattle.block.specs.declared.Looked.{Looked}
 use Rattle.block.specs.declared.Looked.the-variants.{Found, Missed}
-use Rattle.block.specs.Marking.{fresh, markAllocated, markReleased, markShrunk}
+use Rattle.block.specs.Marking.{fresh}
 use Rattle.block.specs.Search.{lookInto}
 use Rattle.state.specs.declared.State.{State}
-use Rattle.state.specs.declared.Searched.{Searched}
 use Rattle.state.specs.declared.Held.{Held}
 use Rattle.state.specs.declared.Held.the-variants.{NoSpan}
 use Rattle.state.specs.declared.Answer.{Answer}
@@ -25,10 +24,10 @@ use Rattle.state.specs.declared.Refusal.the-variants.{BadShape}
 use Rattle.state.specs.Table.{zeroBlock, blockAt, poolAt}
 use Rattle.state.specs.Shape.{inPool, clauses, goodShape, badShape}
 use Rattle.state.specs.Change.{inserted, removed}
-use Rattle.rules.specs.Turn.{Turn, turn, refuse, span, putBlock, putPool, withCounts, withLive, unitOf, clearSlot}
+use Rattle.rules.specs.Turn.{Turn, turn, refuse, putBlock, unitOf, clearSlot}
 use Rattle.rules.specs.Alloc.{after, searchFrom, markTurn, makeTurn}
 use Rattle.rules.specs.Span.{heldAt, heldIn}
-use Rattle.rules.specs.Release.{lessUsed, settle}
+use Rattle.rules.specs.Release.{settle}
 use Rattle.rules.specs.Shrink.{cutTurn}
 use Rattle.rules.specs.Reset.{clearBlocks}
 use Rattle.facts.proofs.Made.{length-cleared}

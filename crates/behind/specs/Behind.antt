@@ -1,11 +1,10 @@
 -- Words from slots times W on are neither read nor written. Assumes nothing.
-use Prim.Native.Nat.{ℕ, _*_, _≤_}
+use Prim.Native.Nat.{ℕ}
 use mathlib.Core.List.{List, _++_}
 use mathlib.Core.Path.{_≡_}
-use lib.ListN.{length, take, drop}
-use Rattle.state.specs.declared.State.{State}
+use lib.ListN.{take, drop}
 use Rattle.rules.specs.Turn.{Turn, turn}
-use Rattle.rules.specs.Machine.{Call, create, alloc, release, shrink, query, softReset, hardReset, step}
+use Rattle.rules.specs.Machine.{Call, create, alloc, release, shrink, query, softReset, hardReset}
 
 -- what a turn leaves, with more words behind its maps
 abbrev pub behind : Turn → List ℕ → List ℕ → Turn

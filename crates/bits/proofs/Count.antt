@@ -4,7 +4,6 @@ use mathlib.Core.Path.{_≡_, refl, sym, ap, ap₂, _∙_}
 use mathlib.Core.List.{List}
 use native.Mathlib.Nat.{add-zero, add-suc, add-assoc, zero-mul, suc-mul}
 use native.Mathlib.Omega.{arith}
-use lib.ListN.{length}
 use Rattle.numbers.proofs.Split.{by-eq}
 use Rattle.bits.specs.Bits.{bit, Filled, ones}
 use Rattle.bits.proofs.Words.{bit-lt}

@@ -1,8 +1,8 @@
 -- Laws of a number's digits. Assumes nothing.
-use Prim.Native.Nat.{ℕ, zero, suc, _+_, _-_, _*_, _/_, _%_, _^_, _≤_, _<_, min, max, suc-le-suc, zero-le}
+use Prim.Native.Nat.{ℕ, zero, suc, _+_, _-_, _*_, _/_, _%_, _^_, _≤_, _<_, min, max, suc-le-suc}
 use mathlib.Core.Path.{_≡_, refl, sym, ap, ap₂, _∙_, subst}
-use mathlib.Core.Logic.{_⊎_, inl, inr, ⊎-elim}
-use native.Mathlib.Nat.{div-one, div-div-eq-div-mul, mul-comm, mul-assoc, pow-suc, mod-lt, div-add-mod', zero-lt-suc, zero-div, sub-zero, div-self, one-mul, mul-div-cancel, eq-or-lt-of-le, le-trans, mod-le, mul-add-mod-self-right, mul-add-div-right, div-eq-of-lt, mod-eq-of-lt, le-of-suc-le-suc, not-suc-le-zero, min-zero, zero-min, max-zero, zero-max, suc-inj, mul-le-mul-right, div-mul-le-self}
+use mathlib.Core.Logic.{_⊎_, ⊎-elim}
+use native.Mathlib.Nat.{div-one, div-div-eq-div-mul, mul-comm, mul-assoc, pow-suc, mod-lt, div-add-mod', zero-lt-suc, zero-div, sub-zero, div-self, one-mul, mul-div-cancel, eq-or-lt-of-le, le-trans, mod-le, le-of-suc-le-suc, not-suc-le-zero, mul-le-mul-right, div-mul-le-self}
 use native.Mathlib.Omega.{arith}
 use native.Mathlib.Numerals.{add-one}
 use lib.Arith.{lt-one, digits-div, digits-mod}

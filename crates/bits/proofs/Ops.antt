@@ -1,16 +1,16 @@
 -- What the code's operations on a word are, digit by digit. Assumes nothing.
-use Prim.Native.Nat.{ℕ, zero, suc, _+_, _-_, _*_, _/_, _%_, _^_, _≤_, _<_, min, max}
-use mathlib.Core.Path.{_≡_, refl, sym, ap, ap₂, _∙_, subst}
-use mathlib.Core.Bool.{Bool, true, false, not}
-use mathlib.Core.Logic.{_⊎_, inl, inr, ⊎-elim}
-use native.Mathlib.Nat.{mod-lt, zero-lt-suc, one-mul}
+use Prim.Native.Nat.{ℕ, zero, suc, _-_, _*_, _/_, _%_, _^_, _<_}
+use mathlib.Core.Path.{_≡_, refl, sym, ap, _∙_}
+use mathlib.Core.Bool.{not}
+use mathlib.Core.Logic.{_⊎_, ⊎-elim}
+use native.Mathlib.Nat.{mod-lt, one-mul}
 use native.Mathlib.Omega.{arith}
 use mir.Val.{boolByte}
 use lib.Dec.{eqb, lit<}
-use lib.Bits.{bitAnd, bitOr, bitXor, and-mask, and-lt, or-lt}
+use lib.Bits.{bitAnd, bitOr, and-mask, and-lt, or-lt}
 use lib.Pow.{pow-pos, ones-sub-lt}
 use Rattle.bits.specs.Bits.{digit, put}
-use Rattle.bits.proofs.Digits.{digit-lt, digits-ext, digit-and, digit-or, digit-xor, digit-mod, digit-not, digit-pow-same, digit-pow-other, put-same, put-other, put-lt}
+use Rattle.bits.proofs.Digits.{digit-lt, digits-ext, digit-and, digit-or, digit-mod, digit-not, digit-pow-same, digit-pow-other, put-same, put-other, put-lt}
 use Rattle.numbers.proofs.Split.{eq-or-ne}
 
 test-is : (n : ℕ) → n < 2 → boolByte (not (eqb n 0)) ≡ n

@@ -1,22 +1,20 @@
 -- Marking, release and shrink keep what a block's window promises (`Windowed`). Assumes nothing.
-use Prim.Native.Nat.{ℕ, zero, suc, _+_, _-_, _*_, _≤_, _<_, min, max}
-use mathlib.Core.Bool.{Bool, true, false}
+use Prim.Native.Nat.{ℕ, _+_, _-_, _*_, _≤_, _<_}
 use mathlib.Core.List.{List}
 use mathlib.Core.Logic.{_⊎_, inl, inr, ⊎-elim}
-use mathlib.Core.Path.{_≡_, refl, sym, ap, _∙_}
+use mathlib.Core.Path.{_≡_, sym, _∙_}
 use native.Mathlib.Omega.{arith}
 use lib.ListN.{length}
 use borrow.Author.Tests.{eq-eqb, ne-eqb}
 use Rattle.numbers.proofs.Split.{by-eq, by-le, not-both}
 use Rattle.bits.specs.Bits.{bit, ones, Filled}
-use Rattle.bits.proofs.Count.{ones-le, ones-filled, ones-all-one, ones-none}
-use Rattle.runs.specs.Window.{FreeAt}
+use Rattle.bits.proofs.Count.{ones-filled, ones-all-one, ones-none}
 use Rattle.block.specs.declared.Block.{Block}
 use Rattle.block.specs.Record.{emptyFlag, dirtyFlag, on, off, withNumbers}
 use Rattle.block.specs.Marking.{moved, full, marked, emptied, widened, released, shrunk}
 use Rattle.block.specs.Search.{isDirty}
-use Rattle.block.specs.Window.{Longest, Windowed}
-use Rattle.block.proofs.Flags.{dirty-on, dirty-off}
+use Rattle.block.specs.Window.{Windowed}
+use Rattle.block.proofs.Flags.{dirty-on}
 
 -- ---- marking
 moved-low : (x own other k : ℕ) → x ≤ k → (x ≡ own → other ≤ k) → moved x own other ≤ k

@@ -1,32 +1,30 @@
 -- The window law: what the search finds in the window is the lowest fit of the whole block, and tightening keeps that; so do marking, release
 -- and shrink. Assumes nothing.
-use Prim.Native.Nat.{ℕ, zero, suc, _+_, _-_, _*_, _≤_, _<_, min, max}
+use Prim.Native.Nat.{ℕ, _+_, _-_, _*_, _≤_, _<_}
 use mathlib.Core.Bool.{Bool, true, false}
 use mathlib.Core.List.{List}
 use mathlib.Core.Logic.{_⊎_, inl, inr, ⊎-elim, _↔_}
-use mathlib.Core.Path.{_≡_, refl, sym, ap, subst, _∙_}
-use native.Mathlib.Nat.{zero-add}
+use mathlib.Core.Path.{_≡_, refl, ap, subst}
 use native.Mathlib.Omega.{arith}
-use lib.Dec.{lit<, leb, eqb}
+use lib.Dec.{lit<, leb}
 use lib.ListN.{length}
-use borrow.Author.Tests.{le-leb, eq-eqb, ne-eqb}
+use borrow.Author.Tests.{le-leb}
 use Rattle.numbers.specs.Pick.{pick}
-use Rattle.numbers.proofs.Split.{by-eq, by-le, not-both, same-of-not-lt}
-use Rattle.bits.specs.Bits.{bit, ones, filled, Filled}
+use Rattle.numbers.proofs.Split.{by-le, not-both, same-of-not-lt}
+use Rattle.bits.specs.Bits.{ones, filled}
 use Rattle.bits.proofs.Fill.{filled-has}
-use Rattle.bits.proofs.Count.{ones-le, ones-filled, ones-all-one, ones-none}
+use Rattle.bits.proofs.Count.{ones-le, ones-filled}
 use Rattle.runs.specs.Window.{FreeAt, NoFit, Lowest, Tightened, Sought}
 use Rattle.runs.specs.declared.Search.{Search}
 use Rattle.runs.specs.declared.Search.the-variants.{At, Tight, Full}
 use Rattle.runs.specs.Seek.{seek}
-use Rattle.runs.proofs.Seek.{seek-is, seek-only}
+use Rattle.runs.proofs.Seek.{seek-is}
 use Rattle.slots.specs.Slots.{slotOf}
 use Rattle.block.specs.declared.Block.{Block}
 use Rattle.block.specs.declared.Looked.{Looked}
 use Rattle.block.specs.declared.Looked.the-variants.{Found, Missed}
 use Rattle.block.specs.Search.{isDirty, looks, looked, tightened, lookInto}
 use Rattle.block.specs.Window.{Longest, Windowed}
-use Rattle.block.proofs.Flags.{dirty-on, dirty-off}
 
 -- n free units in a row: the used count leaves room for them
 free-room : (u : List ℕ) (area i n : ℕ) → area ≤ 32 * length u → i + n ≤ area → FreeAt u n i → ones u 0 area + n ≤ area

@@ -3,7 +3,7 @@ use Prim.Native.Nat.{ℕ}
 use mathlib.Core.Bool.{Bool, true, false}
 use mathlib.Core.List.{List, [], _∷_}
 use mathlib.Core.Logic.{⊎-elim}
-use mathlib.Core.Path.{_≡_, refl, sym, ap, _∙_}
+use mathlib.Core.Path.{_≡_, refl, sym, ap}
 use native.Mathlib.Omega.{arith}
 use types.Run.{OneOf}
 use denote.Enum.Declared.{tagOf}
@@ -22,7 +22,6 @@ use Rattle.state.specs.declared.Answer.the-variants.{Created, Granted, Released
 use Rattle.state.specs.Shape.{badShape}
 use Rattle.state.specs.Find.{lookup}
 use Rattle.rules.specs.Turn.{Turn, turn, refuse}
-use Rattle.rules.specs.Create.{Asked, createTurn}
 use Rattle.rules.specs.Span.{heldIn, shownTurn, queriedTurn, queryTurn}
 use Rattle.rules.specs.Machine.{orBefore}
 

@@ -3,9 +3,9 @@ use block::Block;
 use sizes::Pool;
 use state::State;
 ghost use mathlib.Core.Path.{_≡_};
-ghost use Prim.Native.Nat.{ℕ, _+_, _^_, _≤_, _<_};
+ghost use Prim.Native.Nat.{ℕ, _+_, _≤_, _<_};
 ghost use lib.ListN.{length, getD};
-ghost use Rattle.state.specs.Table.{zeroBlock, blockAt, ageAt, poolAt};
+ghost use Rattle.state.specs.Table.{ageAt};
 ghost use Rattle.change.specs.Ready.{Enters};
 ghost use Rattle.state.specs.Change.{listFrom, movedUp, placeOf, inserted};
 

@@ -2,7 +2,7 @@
 use Prim.Native.Nat.{ℕ, _-_, _≤_, _<_}
 use mathlib.Core.Bool.{Bool, true, false, not, _||_}
 use mathlib.Core.List.{List}
-use mathlib.Core.Path.{_≡_, refl, sym}
+use mathlib.Core.Path.{_≡_, refl, sym, ap}
 use native.Mathlib.Omega.{arith}
 use borrow.Author.Tests.{leb-true, ltb-false, eqb-true, eqb-false, not-true, not-false}
 use lib.Dec.{leb, ltb, eqb}
@@ -32,6 +32,7 @@ use Rattle.state.specs.Table.{zeroState, blockAt, poolAt}
 use Rattle.state.specs.Shape.{goodShape, badShape}
 use Rattle.state.specs.Change.{removed}
 use Rattle.state.specs.Find.{lookup, lowestPlace, lowestSlot, newestSize}
+use Rattle.facts.proofs.Searched.{search-other}
 use Rattle.rules.specs.Turn.{Turn, turn, refuse, span, putPool, withCounts, unitOf, clearSlot}
 use Rattle.rules.specs.Create.{Asked, slotsOf, grantable, granted, createTurn}
 use Rattle.rules.specs.Alloc.{searchPool, markTurn, makeTurn, placeTurn, searchedTurn, sizeTurn, allocTurn}
@@ -76,6 +77,14 @@ unitsFor s bytes = unitsOf bytes (poolAt s (poolFor s bytes) .granularity)
 -- its pool, searched
 abbrev pub searchFor : State → List ℕ → ℕ → Searched
 searchFor s u bytes = searchPool s u (poolFor s bytes) (unitsFor s bytes)
+
+-- which leaves all but the blocks' records
+module _ (s : State) (u : List ℕ) (bytes : ℕ) where
+  pub search-count : searchFor s u bytes .state .count ≡ s .count
+  search-count = ap (λ (r : State). r .count) (search-other s u (poolFor s bytes) (unitsFor s bytes))
+
+  pub search-arena : searchFor s u bytes .state .arena ≡ s .arena
+  search-arena = ap (λ (r : State). r .arena) (search-other s u (poolFor s bytes) (unitsFor s bytes))
 
 -- a new block for it, of size bytes
 abbrev pub newSize : State → ℕ → ℕ → ℕ

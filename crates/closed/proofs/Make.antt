@@ -28,7 +28,7 @@ use Rattle.state.specs.Change.{orElse, placeOf, movedUp, withBlocks, inserted}
 use Rattle.state.proofs.Tests.{and-right, all-at}
 use Rattle.state.proofs.Find.{Least, least-of, Latest, latest-of}
 use Rattle.shape.specs.Shaped.{Shaped}
-use Rattle.shape.proofs.Address.{apart-is}
+use Rattle.shape.proofs.Address.{Apart, apart-is}
 use Rattle.facts.proofs.Facts.{unit-g}
 use Rattle.facts.proofs.Room.{slot-is, place-in, room-left}
 use Rattle.facts.specs.Ready.{Makeable}
@@ -51,6 +51,14 @@ place-found s size at e = go (least (s .length / 65536) (placeFree s size)) (lea
     go : (r : Found) → Least 0 (s .length / 65536) (placeFree s size) r → Address at ≡ placed s r → (k : ℕ) × (at ≡ placeAt s k) × (placeFree s size k ≡ true)
     go (At k) q z = let is : at ≡ placeAt s k = cc in (k, is, q .passes)
     go Nothing q z = let z : _≡_ {A = ℕ} 0 1 = cc in absurd (omega arith)
+
+-- a block there shares no byte with a standing one
+pub place-apart : (s : State) (b : Block) → Address (b .base) ≡ lowestPlace s (b .size) → (i : ℕ) → i < s .count → Apart (blockAt s i) b
+place-apart s b e i l =
+    let q = place-found s (b .size) (b .base) e in
+    let free = and-right (leb (placeAt s (q .0) + b .size) (s .arena + s .length)) (all (s .count) (λ x. clear (blockAt s x) (placeAt s (q .0)) (b .size))) (q .2) in
+    let here = subst (λ (a : ℕ). all (s .count) (λ x. clear (blockAt s x) a (b .size)) ≡ true) (sym (q .1)) free in
+    apart-is (blockAt s i) b (all-at (s .count) (λ x. clear (blockAt s x) (b .base) (b .size)) i here l)
 
 -- ---- 32 units divide a new block's size
 module _ (s : State) (v w : ℕ) (f : Shaped s v w) where
@@ -206,13 +214,10 @@ module _ (s : State) (v w : ℕ) (f : Shaped s v w) (z : Sized s) (p n bytes at 
 
   bytes-apart : (i : ℕ) → i < s .count → (c .base + c .size ≤ blockAt s i .base) ⊎ (blockAt s i .base + blockAt s i .size ≤ c .base)
   bytes-apart i l =
-      let q = place-found s size at (k .place) in
-      let free = and-right (leb (placeAt s (q .0) + size) (s .arena + s .length)) (all (s .count) (λ x. clear (blockAt s x) (placeAt s (q .0)) size)) (q .2) in
-      let here = subst (λ (a : ℕ). all (s .count) (λ x. clear (blockAt s x) a size) ≡ true) (sym (q .1)) free in
       ⊎-elim
       (λ h. inr (omega (arith, changed .lies .base)))
       (λ h. inl (omega (arith, changed .lies .base, changed .lies .size)))
-      (apart-is (blockAt s i) b (all-at (s .count) (λ x. clear (blockAt s x) at size) i here l))
+      (place-apart s b (k .place) i l)
 
   place-same : placeOf s b ≡ placeOf s c
   place-same = ap (λ (x : ℕ). orElse (s .count) (least (s .count) (λ y. ltb x (blockAt s (ageAt s y) .base)))) (sym (changed .lies .base))

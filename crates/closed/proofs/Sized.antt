@@ -11,6 +11,11 @@ use Rattle.block.specs.Marking.{emptied, marked, markReleased, markShrunk}
 use Rattle.block.specs.Search.{lookInto}
 use Rattle.sizes.specs.declared.Pool.{Pool}
 use Rattle.sizes.proofs.Cases.{picked}
+use mir.Val.{Val}
+use denote.Laws.{Is}
+use denote.Struct.Declared.{row}
+use Rattle.state.proofs.State.{the-type}
+use Rattle.state.proofs.Lengths.{blocks-64, order-64, pool-3}
 use Rattle.state.specs.declared.State.{State}
 use Rattle.state.specs.declared.Searched.{Searched}
 use Rattle.state.specs.Table.{blockAt}
@@ -24,6 +29,10 @@ use Rattle.rules.specs.Reset.{emptyTable, oldest, keep, kept}
 use Rattle.rules.specs.Machine.{Call, create, alloc, release, shrink, query, softReset, hardReset, step}
 use Rattle.closed.specs.Sized.{Sized}
 use Rattle.closed.proofs.Cases.{poolFor, unitsFor, searchFor, settle-cases, create-cases, query-cases, release-cases, shrink-cases, reset-cases, alloc-cases}
+
+-- ---- a value of the record's type
+pub sized-is : (s : State) (vs : List Val) → Is (row the-type) s vs → Sized s
+sized-is s vs good = record { blocks = blocks-64 s vs good; order = order-64 s vs good; pools = pool-3 s vs good }
 
 -- ---- each change
 module _ (s : State) (z : Sized s) where

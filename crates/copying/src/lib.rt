@@ -10,14 +10,11 @@ ghost use Rattle.unused.specs.Within.{Within};
 ghost use Rattle.copying.specs.Copying.{fits, written, lookedUp, copyAnswer, copyImage};
 
 // What a query shows, where the image is as long as the arena.
-fn look_up(s: State, used: &[u32], stop: &[u32], bytes: usize, address: u64) -> Answer
-    ensures { λ r. ⌜ r ≡ lookedUp s (now (used .entry)) (now (stop .entry)) bytes address ⌝ }
+fn look_up(s: State, used: &[u32], stop: &[u32], room: usize, address: u64) -> Answer
+    ensures { λ r. ⌜ r ≡ lookedUp s (now (used .entry)) (now (stop .entry)) room address ⌝ }
 {
-    if bytes as u64 != s.length {
-        if !whole::shape_ok(s, used.len(), stop.len()) {
-            return Answer::Refused(Refusal::BadShape);
-        }
-        return Answer::Refused(Refusal::InvalidArgument);
+    if room as u64 != s.length {
+        return Answer::Refused(filling::wrong_image(s, used.len(), stop.len()));
     }
     query::query(s, used, stop, address)
 }

@@ -37,10 +37,10 @@ leads : {s : State} {u t : List ℕ} {l : List Span} → Reached s u t l → (cs
 leads r [] = r
 leads r (c ∷ cs) = leads (called r c) cs
 
-pub asked : Asked
+unfoldable pub asked : Asked
 asked = record { size = 65536; g = 64; flags = 0; w = 256; arena = 4194304; length = 1048576 }
 
-pub first : Turn
+unfoldable pub first : Turn
 first = createTurn asked (replicate 8192 0) (replicate 8192 0)
 
 -- up to the reset

@@ -1,15 +1,14 @@
 -- A search changes windows alone: the lowest slot, the lowest place and the newest block's size are found as before it. Assumes nothing.
-use Prim.Native.Nat.{ℕ, zero, suc, _+_, _-_, _*_, _/_}
+use Prim.Native.Nat.{ℕ, zero, suc, _+_, _/_}
 use mathlib.Core.Bool.{Bool, not, _&&_}
 use mathlib.Core.List.{List}
-use mathlib.Core.Path.{_≡_, refl, sym, ap, ap₂, _∙_}
+use mathlib.Core.Path.{_≡_, refl, ap, ap₂, _∙_}
 use lib.Dec.{leb, ltb, eqb}
 use Rattle.numbers.specs.Pick.{pick}
 use Rattle.block.specs.declared.Block.{Block}
 use Rattle.state.specs.declared.State.{State}
 use Rattle.state.specs.declared.Found.{Found}
 use Rattle.state.specs.declared.Found.the-variants.{At, Nothing}
-use Rattle.state.specs.declared.Place.{Place}
 use Rattle.state.specs.Table.{blockAt, all}
 use Rattle.state.specs.Find.{leastFrom, least, latest, slotFree, lowestSlot, clear, placeAt, placeFree, placed, lowestPlace, newest, sizeOr, newestSize}
 use Rattle.state.specs.Change.{withTable}

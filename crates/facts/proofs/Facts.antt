@@ -1,11 +1,10 @@
 -- What a good shape gives to the functions that the calls are made of. Assumes nothing.
 use Prim.Native.Nat.{ℕ, _+_, _-_, _*_, _/_, _%_, _^_, _≤_, _<_}
-use mathlib.Core.Bool.{Bool, true, false, not}
-use mathlib.Core.Logic.{⊎-elim}
+use mathlib.Core.Bool.{Bool, true, false}
 use mathlib.Core.Path.{_≡_, refl, sym, ap, subst, _∙_}
-use native.Mathlib.Nat.{mul-le-mul-right, mul-le-mul}
+use native.Mathlib.Nat.{mul-le-mul-right, mul-le-mul, div-add-mod'}
 use native.Mathlib.Omega.{arith}
-use borrow.Author.Tests.{leb-true, ltb-true, not-true, not-false}
+use borrow.Author.Tests.{leb-true, ltb-true, eqb-true}
 use lib.Dec.{leb, ltb, eqb}
 use mathlib.Core.List.{List}
 use Rattle.numbers.specs.Pick.{pick}
@@ -17,16 +16,12 @@ use Rattle.sizes.specs.declared.Pool.{Pool}
 use Rattle.state.specs.declared.State.{State}
 use Rattle.state.specs.declared.Found.{Found}
 use Rattle.state.specs.declared.Found.the-variants.{At, Nothing}
-use Rattle.state.specs.Table.{blockAt, ageAt, poolAt}
-use Rattle.state.specs.Shape.{goodShape}
-use Rattle.state.specs.declared.Held.{Held}
-use Rattle.state.specs.declared.Held.the-variants.{NoSpan, NoStop, Units}
+use Rattle.state.specs.Table.{blockAt, poolAt}
+use Rattle.state.specs.declared.Held.the-variants.{NoSpan, Units}
 use Rattle.state.specs.Find.{holds, leastFrom, lookup}
 use Rattle.state.proofs.Tests.{and-left, and-right}
-use Rattle.state.proofs.Find.{Least, LeastIn, least-is, least-of}
-use Rattle.shape.specs.Facts.{Headed, Lent, SoundIn}
+use Rattle.state.proofs.Find.{Least, least-is, least-of}
 use Rattle.shape.specs.Shaped.{Shaped}
-use Rattle.shape.proofs.Shaped.{shaped-is}
 use Rattle.table.specs.Ordered.{Ordered, Arranged, Slotted}
 use Rattle.rules.specs.Turn.{unitOf}
 use Rattle.rules.specs.Span.{starts, upTo, heldAt, heldOf}
@@ -104,27 +99,33 @@ found-in s a j e =
     let q = subst (Least 0 (s .count) (λ i. holds (blockAt s i) a)) (sym e) (least-of (s .count) (λ i. holds (blockAt s i) a)) in
     (q .high, q .passes)
 
--- ---- a span that stands at an address lies in its block
-module _ (u t : List ℕ) (area : ℕ) where
-  up-to-in : (i : ℕ) (r : Found) → Least i (i + (area - i)) (λ k. eqb (bit t k) 1) r → (j e : ℕ) → upTo i r ≡ Units j e → (j < e) × (e ≤ area)
+-- ---- a span that stands at an address starts there and lies in its block
+module _ (t : List ℕ) (area : ℕ) where
+  up-to-in : (i : ℕ) (r : Found) → Least i (i + (area - i)) (λ k. eqb (bit t k) 1) r → (j e : ℕ) → upTo i r ≡ Units j e → (i ≡ j) × (j < e) × (e ≤ area)
   up-to-in i (At k) q j e z =
       let p : i ≡ j = cc in
       let r : k + 1 ≡ e = cc in
-      (omega (arith, q .low), omega (arith, q .low, q .high))
+      (p, omega (arith, q .low), omega (arith, q .low, q .high))
   up-to-in i Nothing q j e z = let z : _≡_ {A = ℕ} 0 1 = cc in absurd (omega arith)
 
-  held-at-in : (i : ℕ) (b : Bool) (j e : ℕ) → pick b (upTo i (leastFrom i (area - i) (λ k. eqb (bit t k) 1))) NoSpan ≡ Units j e → (j < e) × (e ≤ area)
+  held-at-in : (i : ℕ) (b : Bool) (j e : ℕ) → pick b (upTo i (leastFrom i (area - i) (λ k. eqb (bit t k) 1))) NoSpan ≡ Units j e → (i ≡ j) × (j < e) × (e ≤ area)
   held-at-in i true j e z = up-to-in i (leastFrom i (area - i) (λ k. eqb (bit t k) 1)) (least-is i (area - i) (λ k. eqb (bit t k) 1)) j e z
   held-at-in i false j e z = let z : _≡_ {A = ℕ} 0 1 = cc in absurd (omega arith)
 
-pub held-in-range : (w : ℕ) (b : Block) (unit : ℕ) (u t : List ℕ) (a i e : ℕ) → heldOf w b unit u t a ≡ Units i e → (i < e) × (e ≤ b .area)
-held-in-range w b unit u t a i e z = go (eqb ((a - b .base) % unit) 0) z
+pub held-is : (w : ℕ) (b : Block) (unit : ℕ) (u t : List ℕ) (a i e : ℕ) → heldOf w b unit u t a ≡ Units i e → (a - b .base ≡ i * unit) × (i < e) × (e ≤ b .area)
+held-is w b unit u t a i e z = go (eqb ((a - b .base) % unit) 0) refl z
   where
-    go : (c : Bool) → pick c (heldAt (slotOf w (b .slot) u) (slotOf w (b .slot) t) (b .area) ((a - b .base) / unit)) NoSpan ≡ Units i e → (i < e) × (e ≤ b .area)
-    go true z =
-        held-at-in (slotOf w (b .slot) u) (slotOf w (b .slot) t) (b .area) ((a - b .base) / unit)
-        (starts (slotOf w (b .slot) u) (slotOf w (b .slot) t) ((a - b .base) / unit)) i e z
-    go false z = let z : _≡_ {A = ℕ} 0 1 = cc in absurd (omega arith)
+    go : (c : Bool) → eqb ((a - b .base) % unit) 0 ≡ c
+        → pick c (heldAt (slotOf w (b .slot) u) (slotOf w (b .slot) t) (b .area) ((a - b .base) / unit)) NoSpan ≡ Units i e
+        → (a - b .base ≡ i * unit) × (i < e) × (e ≤ b .area)
+    go true q z =
+        let r = held-at-in (slotOf w (b .slot) t) (b .area) ((a - b .base) / unit)
+        (starts (slotOf w (b .slot) u) (slotOf w (b .slot) t) ((a - b .base) / unit)) i e z in
+        (omega (arith, div-add-mod' (a - b .base) unit, eqb-true ((a - b .base) % unit) 0 q, ap (λ (n : ℕ). n * unit) (r .0)), r .1, r .2)
+    go false q z = let z : _≡_ {A = ℕ} 0 1 = cc in absurd (omega arith)
+
+pub held-in-range : (w : ℕ) (b : Block) (unit : ℕ) (u t : List ℕ) (a i e : ℕ) → heldOf w b unit u t a ≡ Units i e → (i < e) × (e ≤ b .area)
+held-in-range w b unit u t a i e z = let r = held-is w b unit u t a i e z in (r .1, r .2)
 
 -- bytes of some units of a block fit an address
 pub bytes-fit : (s : State) (u t : ℕ) → Shaped s u t → (p n : ℕ) → p < 3 → n ≤ 32 * s .w → n * poolAt s p .granularity ≤ 2 ^ 27

@@ -1,8 +1,6 @@
 -- A block's record is replaced by one that lies in the same place and has the same counts: the state keeps its shape. Assumes nothing.
-use Prim.Native.Nat.{ℕ, _+_, _-_, _*_, _^_, _≤_, _<_}
-use mathlib.Core.Bool.{Bool, true, false, _&&_}
-use mathlib.Core.List.{List}
-use mathlib.Core.Logic.{_⊎_, ⊎-elim, inl, inr}
+use Prim.Native.Nat.{ℕ, _≤_, _<_}
+use mathlib.Core.Bool.{Bool, true, _&&_}
 use mathlib.Core.Path.{_≡_, refl, sym, ap, ap₂, subst, _∙_}
 use native.Mathlib.Omega.{arith}
 use lib.Dec.{eqb}
@@ -13,11 +11,11 @@ use Rattle.numbers.proofs.Split.{by-eq}
 use Rattle.block.specs.declared.Block.{Block}
 use Rattle.sizes.specs.declared.Pool.{Pool}
 use Rattle.state.specs.declared.State.{State}
-use Rattle.state.specs.Table.{zeroBlock, blockAt, ageAt, poolAt, sum, one, only}
-use Rattle.state.specs.Shape.{isEmpty, inPool, emptiesOf, isZero}
+use Rattle.state.specs.Table.{zeroBlock, blockAt, ageAt, one, only}
+use Rattle.state.specs.Shape.{isEmpty, inPool, isZero}
 use Rattle.state.proofs.Tests.{sum-same}
 use Rattle.shape.specs.Parts.{poolSum}
-use Rattle.shape.specs.Facts.{Headed, Lent, SoundIn}
+use Rattle.shape.specs.Facts.{Headed, SoundIn}
 use Rattle.shape.specs.Shaped.{Shaped, Enough}
 use Rattle.shape.proofs.Shaped.{shaped-is}
 use Rattle.shape.proofs.Enough.{enough-good}

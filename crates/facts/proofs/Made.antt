@@ -1,9 +1,9 @@
 -- A new block in the table, ready for its span. Assumes nothing.
-use Prim.Native.Nat.{ℕ, _+_, _*_, _^_, _≤_, _<_}
+use Prim.Native.Nat.{ℕ, _+_, _*_, _≤_}
 use mathlib.Core.List.{List}
-use mathlib.Core.Path.{_≡_, refl, sym, ap, subst, _∙_}
+use mathlib.Core.Path.{_≡_, sym, ap, subst, _∙_}
 use native.Mathlib.Omega.{arith}
-use lib.ListN.{length, set, replicate, length-replicate}
+use lib.ListN.{length, replicate, length-replicate}
 use lib.Seq.{getD-set-same}
 use Rattle.slots.proofs.Laws.{length-put-slot}
 use Rattle.block.specs.declared.Block.{Block}

@@ -1,14 +1,12 @@
 -- A new block for a pool: its units, its words, and that it may enter. Assumes nothing.
-use Prim.Native.Nat.{ℕ, _+_, _-_, _*_, _/_, _^_, _≤_, _<_}
-use mathlib.Core.Bool.{Bool, true, false}
-use mathlib.Core.Path.{_≡_, refl, sym, ap, subst, _∙_}
+use Prim.Native.Nat.{ℕ, _-_, _*_, _^_, _≤_}
+use mathlib.Core.Path.{_≡_, refl}
 use native.Mathlib.Nat.{mul-le-mul, le-of-mul-le-mul-right}
 use native.Mathlib.Omega.{arith}
 use lib.ListN.{length}
 use Rattle.numbers.specs.Units.{unitsOf}
 use Rattle.numbers.proofs.Units.{units-hold, units-tight}
 use Rattle.block.specs.declared.Block.{Block}
-use Rattle.block.specs.Record.{Placed}
 use Rattle.block.specs.Marking.{fresh}
 use Rattle.state.specs.declared.State.{State}
 use Rattle.state.specs.declared.Found.the-variants.{At}

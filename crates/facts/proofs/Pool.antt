@@ -1,17 +1,16 @@
 -- A rounded size in its pool: its units, what the search asks and leaves, and a new block's size. Assumes nothing.
-use Prim.Native.Nat.{ℕ, zero, suc, _+_, _-_, _*_, _/_, _%_, _^_, _≤_, _<_}
-use mathlib.Core.Bool.{Bool, true, false, _&&_}
+use Prim.Native.Nat.{ℕ, zero, suc, _-_, _*_, _%_, _^_, _≤_, _<_}
+use mathlib.Core.Bool.{Bool, true, _&&_}
 use mathlib.Core.List.{List}
-use mathlib.Core.Logic.{_⊎_, ⊎-elim, inl, inr}
-use mathlib.Core.Path.{_≡_, refl, sym, ap, ap₂, subst, _∙_}
+use mathlib.Core.Logic.{_⊎_, ⊎-elim}
+use mathlib.Core.Path.{_≡_, refl, ap, ap₂, _∙_}
 use native.Mathlib.Nat.{mul-le-mul, div-add-mod'}
 use native.Mathlib.Omega.{arith}
 use borrow.Author.Tests.{eq-eqb}
 use lib.Dec.{eqb}
-use lib.ListN.{length, getD}
+use lib.ListN.{getD}
 use Rattle.numbers.specs.Units.{unitsOf}
-use Rattle.numbers.proofs.Units.{units-even, units-hold}
-use Rattle.block.specs.declared.Block.{Block}
+use Rattle.numbers.proofs.Units.{units-even}
 use Rattle.block.specs.Record.{Placed}
 use Rattle.sizes.specs.declared.Pool.{Pool}
 use Rattle.sizes.specs.Limits.{isGranularity}
@@ -22,15 +21,12 @@ use Rattle.sizes.proofs.Sizes.{ideal-holds, ideal-fits}
 use Rattle.state.specs.declared.State.{State}
 use Rattle.state.specs.declared.Found.{Found}
 use Rattle.state.specs.declared.Found.the-variants.{At, Nothing}
-use Rattle.state.specs.declared.Hit.the-variants.{At as hitAt}
-use Rattle.state.specs.Table.{blockAt, poolAt, sum, one}
+use Rattle.state.specs.Table.{blockAt, poolAt, one}
 use Rattle.state.specs.Shape.{isEmpty, inPool}
 use Rattle.state.specs.Find.{latest, newestSize, sizeOr}
 use Rattle.state.proofs.Tests.{sum-term}
 use Rattle.state.proofs.Find.{Latest, latest-of}
-use Rattle.shape.specs.Parts.{poolSum}
 use Rattle.shape.specs.Shaped.{Shaped}
-use Rattle.rules.specs.Turn.{unitOf}
 use Rattle.facts.proofs.Facts.{count-64, unit-g, placed}
 use Rattle.facts.proofs.Room.{pool-small, live-small}
 use Rattle.facts.proofs.Search.{Fits}

@@ -1,27 +1,24 @@
 -- A new block enters a state of good shape: there is room in the table, its slot and place are free, and the sums stay in range. Assumes nothing.
-use Prim.Native.Nat.{ℕ, zero, suc, _+_, _-_, _*_, _/_, _%_, _^_, _≤_, _<_}
-use mathlib.Core.Bool.{Bool, true, false, not, _&&_}
+use Prim.Native.Nat.{ℕ, _+_, _/_, _≤_, _<_}
+use mathlib.Core.Bool.{Bool, true, false, not}
 use mathlib.Core.List.{List}
-use mathlib.Core.Path.{_≡_, refl, sym, ap, subst, _∙_}
+use mathlib.Core.Path.{_≡_, sym, ap, subst}
 use native.Mathlib.Omega.{arith}
 use borrow.Author.Tests.{leb-true, eq-eqb}
-use lib.Dec.{leb, ltb, eqb}
-use lib.ListN.{length, getD, List·getD-eq-default}
-use Rattle.numbers.specs.Pick.{pick}
+use lib.Dec.{leb, eqb}
+use lib.ListN.{length, List·getD-eq-default}
 use Rattle.numbers.proofs.Split.{by-le, not-both}
 use Rattle.block.specs.declared.Block.{Block}
 use Rattle.sizes.specs.declared.Pool.{Pool}
 use Rattle.state.specs.declared.State.{State}
 use Rattle.state.specs.declared.Found.{Found}
 use Rattle.state.specs.declared.Found.the-variants.{At, Nothing}
-use Rattle.state.specs.declared.Place.{Place}
-use Rattle.state.specs.declared.Place.the-variants.{Address, Nowhere}
-use Rattle.state.specs.Table.{blockAt, ageAt, poolAt, all, sum, one, only}
-use Rattle.state.specs.Shape.{isEmpty, inPool}
+use Rattle.state.specs.declared.Place.the-variants.{Address}
+use Rattle.state.specs.Table.{blockAt, poolAt, all, one, only}
+use Rattle.state.specs.Shape.{inPool}
 use Rattle.state.specs.Find.{least, slotFree, lowestSlot, placeAt, placeFree, placed, lowestPlace, clear}
 use Rattle.state.proofs.Tests.{and-left, all-at, sum-bound}
 use Rattle.state.proofs.Find.{Least, least-of}
-use Rattle.shape.specs.Parts.{poolSum}
 use Rattle.shape.specs.Shaped.{Shaped}
 use Rattle.shape.proofs.Pigeon.{each-once, place}
 use Rattle.change.specs.Ready.{Enters}

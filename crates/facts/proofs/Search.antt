@@ -1,19 +1,18 @@
 -- What a search of a pool leaves: a state of good shape, in which every block is where it was; and where it found a place, that place. Assumes nothing.
-use Prim.Native.Nat.{ℕ, zero, suc, _+_, _-_, _*_, _^_, _≤_, _<_}
+use Prim.Native.Nat.{ℕ, zero, suc, _+_, _-_, _≤_, _<_}
 use mathlib.Core.Bool.{Bool, true, false}
 use mathlib.Core.List.{List}
-use mathlib.Core.Logic.{_⊎_, ⊎-elim, inl, inr}
-use mathlib.Core.Path.{_≡_, refl, sym, ap, subst, _∙_}
-use native.Mathlib.Nat.{add-suc, suc-add}
+use mathlib.Core.Logic.{_⊎_, inl, inr}
+use mathlib.Core.Path.{_≡_, refl, sym, subst, _∙_}
 use native.Mathlib.Omega.{arith}
 use borrow.Author.Tests.{leb-true, eqb-true}
-use lib.Dec.{leb, eqb}
+use lib.Dec.{leb}
 use lib.ListN.{length}
 use Rattle.numbers.specs.Pick.{pick}
 use Rattle.numbers.proofs.Split.{by-eq}
 use Rattle.runs.specs.declared.Search.{Search}
 use Rattle.runs.specs.declared.Search.the-variants.{At as at, Tight, Full}
-use Rattle.runs.specs.Window.{Lowest, Sought}
+use Rattle.runs.specs.Window.{Sought}
 use Rattle.runs.specs.Seek.{seek}
 use Rattle.runs.proofs.Seek.{seek-is}
 use Rattle.slots.specs.Slots.{slotOf}

@@ -1,61 +1,26 @@
 -- The bytes that a call fills lie in the arena. Assumes nothing.
-use Prim.Native.Nat.{ℕ, zero, suc, _+_, _-_, _*_, _/_, _%_, _≤_, _<_}
-use mathlib.Core.Bool.{Bool, true, false, not, _||_}
+use Prim.Native.Nat.{ℕ, zero, suc, _+_, _-_, _*_, _≤_, _<_}
 use mathlib.Core.List.{List, [], _∷_, _++_}
-use mathlib.Core.Path.{_≡_, refl, sym, ap, subst, subst₂, _∙_}
-use native.Mathlib.Nat.{add-mul, mul-le-mul-right, div-add-mod', le-refl}
+use mathlib.Core.Path.{_≡_, ap, _∙_}
+use native.Mathlib.Nat.{add-mul, mul-le-mul-right}
 use native.Mathlib.Omega.{arith}
-use borrow.Author.Tests.{eqb-true, leb-true, ltb-true}
-use lib.Dec.{leb, ltb, eqb}
+use borrow.Author.Tests.{leb-true, ltb-true}
+use lib.Dec.{leb, ltb}
 use lib.ListN.{length}
-use Rattle.numbers.specs.Pick.{pick}
 use Rattle.numbers.specs.Units.{bytesOf}
 use Rattle.sizes.proofs.Cases.{picked, and-left}
-use Rattle.bits.specs.Bits.{bit}
-use Rattle.slots.specs.Slots.{slotOf}
-use Rattle.block.specs.declared.Block.{Block}
 use Rattle.state.specs.declared.State.{State}
 use Rattle.state.specs.declared.Span.{Span}
-use Rattle.state.specs.declared.Found.{Found}
-use Rattle.state.specs.declared.Found.the-variants.{At, Nothing}
-use Rattle.state.specs.declared.Held.the-variants.{NoSpan, NoStop, Units}
-use Rattle.state.specs.declared.Answer.{Answer}
-use Rattle.state.specs.declared.Answer.the-variants.{Released, Shrunk, Shown, Reset}
 use Rattle.state.specs.Table.{blockAt}
-use Rattle.state.specs.Shape.{goodShape}
-use Rattle.state.specs.Find.{leastFrom, holds}
 use Rattle.shape.specs.Shaped.{Shaped}
 use Rattle.shape.proofs.Shaped.{shaped-is}
-use Rattle.rules.specs.Turn.{Turn, turn, span, unitOf}
-use Rattle.rules.specs.Span.{starts, upTo, heldAt, heldOf}
-use Rattle.facts.proofs.Facts.{unit-g, pool-3, found-in, held-in-range}
-use Rattle.facts.proofs.Searched.{search-other}
+use Rattle.rules.specs.Turn.{span, unitOf}
+use Rattle.facts.proofs.Facts.{unit-g, pool-3, found-in, held-is}
 use Rattle.closed.proofs.Cases.{Holds}
 use Rattle.unused.specs.Unused.{bytesOfBlock, blocksUpTo, made}
 use Rattle.unused.specs.Within.{Within, AllWithin}
 
 -- ---- a span that stands at an address
-module _ (t : List ℕ) (area : ℕ) where
-  up-to-at : (i : ℕ) (r : Found) (j e : ℕ) → upTo i r ≡ Units j e → i ≡ j
-  up-to-at i (At k) j e z = cc
-  up-to-at i Nothing j e z = let z : _≡_ {A = ℕ} 0 1 = cc in absurd (omega arith)
-
-  held-at-at : (i : ℕ) (b : Bool) (j e : ℕ) → pick b (upTo i (leastFrom i (area - i) (λ k. eqb (bit t k) 1))) NoSpan ≡ Units j e → i ≡ j
-  held-at-at i true j e z = up-to-at i (leastFrom i (area - i) (λ k. eqb (bit t k) 1)) j e z
-  held-at-at i false j e z = let z : _≡_ {A = ℕ} 0 1 = cc in absurd (omega arith)
-
--- its offset is that of its unit
-held-offset : (w : ℕ) (b : Block) (unit : ℕ) (u t : List ℕ) (a i e : ℕ) → heldOf w b unit u t a ≡ Units i e → a - b .base ≡ i * unit
-held-offset w b unit u t a i e z = go (eqb ((a - b .base) % unit) 0) refl z
-  where
-    go : (c : Bool) → eqb ((a - b .base) % unit) 0 ≡ c
-        → pick c (heldAt (slotOf w (b .slot) u) (slotOf w (b .slot) t) (b .area) ((a - b .base) / unit)) NoSpan ≡ Units i e → a - b .base ≡ i * unit
-    go true q z =
-        let k = held-at-at (slotOf w (b .slot) t) (b .area) ((a - b .base) / unit)
-        (starts (slotOf w (b .slot) u) (slotOf w (b .slot) t) ((a - b .base) / unit)) i e z in
-        omega (arith, div-add-mod' (a - b .base) unit, eqb-true ((a - b .base) % unit) 0 q, ap (λ (n : ℕ). n * unit) k)
-    go false q z = let z : _≡_ {A = ℕ} 0 1 = cc in absurd (omega arith)
-
 module _ (s : State) (u t : List ℕ) (a j i e : ℕ) (h : Holds s u t a j i e) where
   abbrev unit : ℕ
   unit = unitOf s (blockAt s j)
@@ -68,13 +33,12 @@ module _ (s : State) (u t : List ℕ) (a j i e : ℕ) (h : Holds s u t a j i e) 
   ends =
       let f = found-in s a j (h .found) in
       let b = shaped .sound j (f .0) in
-      let r = held-in-range (s .w) (blockAt s j) unit u t a i e (h .held) in
-      let o = held-offset (s .w) (blockAt s j) unit u t a i e (h .held) in
+      let r = held-is (s .w) (blockAt s j) unit u t a i e (h .held) in
       let low : blockAt s j .base ≤ a = leb-true (blockAt s j .base) a (and-left (leb (blockAt s j .base) a) (ltb a (blockAt s j .base + blockAt s j .size)) (f .1)) in
       let g = unit-g s (length u) (length t) shaped (blockAt s j .pool) (pool-3 s (length u) (length t) shaped j (f .0)) in
-      let sum : e * unit ≡ i * unit + (e - i) * unit = ap (λ (k : ℕ). k * unit) (omega (arith, r .0)) ∙ add-mul i (e - i) unit in (
+      let sum : e * unit ≡ i * unit + (e - i) * unit = ap (λ (k : ℕ). k * unit) (omega (arith, r .1)) ∙ add-mul i (e - i) unit in (
         omega (arith, low, b .above),
-        omega (arith, low, o, sum, mul-le-mul-right unit (r .1), ap (λ (k : ℕ). blockAt s j .area * k) g, b .area-size, b .below),
+        omega (arith, low, r .0, sum, mul-le-mul-right unit (r .2), ap (λ (k : ℕ). blockAt s j .area * k) g, b .area-size, b .below),
       )
 
   pub span-inside : Within (s .arena) (s .length) (span a (bytesOf (e - i) unit))

@@ -1,15 +1,16 @@
 -- A call with an image is the call without one, or a refusal that changes nothing; and what each call fills lies in the arena. Assumes nothing.
-use Prim.Native.Nat.{ℕ, _+_, _-_, _*_, _≤_, _<_}
-use mathlib.Core.Bool.{Bool, true, false, not, _||_}
-use mathlib.Core.List.{List, [], _∷_}
+use Prim.Native.Nat.{ℕ, _-_, _≤_, _<_}
+use mathlib.Core.Bool.{Bool, true, false, not}
+use mathlib.Core.List.{List, [], _++_}
 use mathlib.Core.Path.{_≡_, refl, sym, ap, subst, subst₂, _∙_}
 use native.Mathlib.Nat.{le-refl}
 use native.Mathlib.Omega.{arith}
-use borrow.Author.Tests.{eq-eqb, ne-eqb}
+use borrow.Author.Tests.{eq-eqb, ne-eqb, eqb-true}
 use lib.Dec.{eqb}
-use lib.ListN.{length}
+use lib.ListN.{length, getD}
 use Rattle.numbers.specs.Pick.{pick}
 use Rattle.numbers.specs.Units.{bytesOf}
+use Rattle.sizes.proofs.Cases.{picked}
 use Rattle.block.specs.Marking.{markReleased}
 use Rattle.state.specs.declared.State.{State}
 use Rattle.state.specs.declared.Span.{Span}
@@ -18,7 +19,7 @@ use Rattle.state.specs.declared.Held.{Held}
 use Rattle.state.specs.declared.Refusal.{Refusal}
 use Rattle.state.specs.declared.Refusal.the-variants.{InvalidArgument, BadShape}
 use Rattle.state.specs.declared.Answer.{Answer}
-use Rattle.state.specs.declared.Answer.the-variants.{Released, Shrunk, Shown, Reset, Refused}
+use Rattle.state.specs.declared.Answer.the-variants.{Released, Shown, Reset, Refused}
 use Rattle.state.specs.declared.Outcome.{Outcome}
 use Rattle.state.specs.Outcome.{refusal}
 use Rattle.state.specs.Table.{blockAt}
@@ -29,19 +30,19 @@ use Rattle.rules.specs.Turn.{Turn, turn, refuse, span, withLive, unitOf}
 use Rattle.rules.specs.Span.{shownTurn, queriedTurn, queryTurn}
 use Rattle.rules.specs.Alloc.{markTurn, makeTurn, allocTurn}
 use Rattle.rules.specs.Release.{lessUsed, settle, freeTurn, releaseTurn}
-use Rattle.rules.specs.Shrink.{cutTurn, cutDownTurn, shrinkTurn}
+use Rattle.rules.specs.Shrink.{cutDownTurn, shrinkTurn}
 use Rattle.rules.specs.Reset.{emptyTable, clearBlocks, kept, resetTurn}
 use Rattle.rules.specs.Machine.{Call, create, alloc, release, shrink, query, softReset, hardReset, step}
 use Rattle.facts.proofs.Facts.{count-64}
 use Rattle.facts.proofs.Searched.{search-other}
 use Rattle.closed.specs.Sized.{Sized}
 use Rattle.closed.specs.Closed.{Good}
-use Rattle.closed.proofs.Cases.{Holds, Frees, Cuts, Seeks, poolFor, unitsFor, searchFor, newSize, settle-cases, release-cases, shrink-cases, reset-cases, alloc-cases}
+use Rattle.closed.proofs.Cases.{Holds, poolFor, unitsFor, searchFor, newSize, search-count, settle-cases, release-cases, shrink-cases, reset-cases, alloc-cases}
 use Rattle.closed.proofs.Kept.{kept-other}
 use Rattle.closed.proofs.Closed.{closed-other}
 use Rattle.unused.specs.Unused.{made, freed, behind, cutOff, keptBytes, blocksUpTo, unused, filled, imageAfter, lent, lentStep}
-use Rattle.unused.specs.Within.{Within, AllWithin}
-use Rattle.unused.proofs.Unused.{made-none, filled-none}
+use Rattle.unused.specs.Within.{AllWithin, Outside}
+use Rattle.unused.proofs.Unused.{within-append, made-none, blocks-none, filled-none, filled-append, filled-stays}
 use Rattle.filling.proofs.Inside.{span-inside, tail-inside, blocks-inside, made-inside}
 
 -- ---- the call
@@ -65,6 +66,12 @@ module _ (s : State) (u t : List ℕ) (bytes : ℕ) where
       go : (b : Bool) → pick b (refuse BadShape s u t) (pick b (refuse BadShape s u t) y) ≡ pick b (refuse BadShape s u t) y
       go true = refl
       go false = refl
+
+  -- either way
+  pub lent-cases : (P : Turn → Type 0) (x : Turn) → (bytes ≡ s .length → P x) → ((why : Refusal) → P (refuse why s u t)) → P (lent s u t bytes x)
+  lent-cases P x granted refused =
+      picked P (badShape s (length u) (length t)) (refuse BadShape s u t) _ (λ b. refused BadShape)
+      (λ b. picked P (eqb bytes (s .length)) x (refuse InvalidArgument s u t) (λ e. granted (eqb-true bytes (s .length) e)) (λ e. refused InvalidArgument))
 
   pub alloc-lent : (size : ℕ) → bytes ≡ s .length → lentStep s u t bytes (alloc size) ≡ allocTurn s u t size
   unfolding allocTurn
@@ -91,7 +98,7 @@ module _ (s : State) (u t : List ℕ) where
   abbrev In : List Span → Type 0
   In xs = AllWithin (s .arena) (s .length) xs
 
-  pub alloc-inside : Sized s → (size : ℕ) → In (made (s .count) (allocTurn s u t size .state))
+  alloc-inside : Sized s → (size : ℕ) → In (made (s .count) (allocTurn s u t size .state))
   alloc-inside z size = alloc-cases P s u t (λ why g. none s (le-refl (s .count)))
       size (λ bytes k g. none (searchFor s u bytes .state) (few bytes))
       (λ bytes j i k e g. none (markTurn (searchFor s u bytes .state) u t j i (unitsFor s bytes) .state) (few bytes))
@@ -110,7 +117,7 @@ module _ (s : State) (u t : List ℕ) where
       none r h = subst In (sym (made-none (s .count) r h)) tt
 
       few : (bytes : ℕ) → searchFor s u bytes .state .count ≤ s .count
-      few bytes = omega (arith, ap (λ (r : State). r .count) (search-other s u (poolFor s bytes) (unitsFor s bytes)))
+      few bytes = omega (arith, search-count s u bytes)
 
   -- a released span, whatever becomes of its block
   settled : (answer : Answer) (r : State) (v w : List ℕ) (j : ℕ) → settle answer r v w j .answer ≡ answer
@@ -121,7 +128,7 @@ module _ (s : State) (u t : List ℕ) where
       let b = markReleased (s .w) (blockAt s j) i e u t in
       settled (Released (span a (bytesOf (e - i) (unitOf s (blockAt s j))))) (withLive (lessUsed s j (b .block) (e - i)) (s .live - 1)) (b .used) (b .stop) j
 
-  pub release-inside : (a : ℕ) → In (freed (releaseTurn s u t a .answer))
+  release-inside : (a : ℕ) → In (freed (releaseTurn s u t a .answer))
   release-inside a =
       release-cases (λ (x : Turn). In (freed (x .answer))) s u t (λ why. tt) a
       (λ j i e k. subst (λ (x : Answer). In (freed x)) (sym (free-answer a j i e)) (span-inside s u t a j i e (k .holds), tt))
@@ -138,10 +145,10 @@ module _ (s : State) (u t : List ℕ) where
   cut-inside a j i e n h l =
       subst (λ (x : Answer). In (behind (span a (bytesOf n (unitOf s (blockAt s j)))) x)) (sym (shows a j i e h)) (tail-inside s u t a j i e h n l, tt)
 
-  pub shrink-inside : (a size : ℕ) → In (cutOff (queryTurn s u t a .answer) (shrinkTurn s u t a size .answer))
+  shrink-inside : (a size : ℕ) → let x = shrinkTurn s u t a size .answer in In (freed x ++ cutOff (queryTurn s u t a .answer) x)
   shrink-inside a size =
       shrink-cases P s u t (λ why. tt) a size
-      (release-cases P s u t (λ why. tt) a (λ j i e k. subst (λ (x : Answer). In (cutOff was x)) (sym (free-answer a j i e)) (span-inside s u t a j i e (k .holds), tt)))
+      (release-cases P s u t (λ why. tt) a (λ j i e k. subst (λ (x : Answer). In (freed x ++ cutOff was x)) (sym (free-answer a j i e)) (span-inside s u t a j i e (k .holds), tt)))
       (λ j i e n h q. cut-inside a j i e n h (omega (arith, q)))
       (λ j i e n k. cut-inside a j i e n (k .holds) (omega (arith, k .less)))
     where
@@ -149,14 +156,14 @@ module _ (s : State) (u t : List ℕ) where
       was = queryTurn s u t a .answer
 
       P : Turn → Type 0
-      P x = In (cutOff was (x .answer))
+      P x = In (freed (x .answer) ++ cutOff was (x .answer))
 
   -- a reset leaves no bad shape
   reset-closed : Sized s → (hard : Bool) → goodShape s (length u) (length t) ≡ true → Good (resetTurn s u t hard)
   reset-closed z true good = closed-other s u t hardReset z good (λ f. f)
   reset-closed z false good = closed-other s u t softReset z good (λ f. f)
 
-  pub reset-inside : Sized s → (hard : Bool) → In (keptBytes (resetTurn s u t hard .state) (resetTurn s u t hard .answer))
+  reset-inside : Sized s → (hard : Bool) → In (keptBytes (resetTurn s u t hard .state) (resetTurn s u t hard .answer))
   reset-inside z hard =
       reset-cases P s u t (λ why g. tt) hard (λ good g. all (emptyTable s) refl refl (g good))
       (λ good off g. all (kept s (s .count)) (ap (λ (y : State). y .arena) (kept-other s (s .count))) (ap (λ (y : State). y .length) (kept-other s (s .count))) (g good))
@@ -173,28 +180,28 @@ module _ (s : State) (u t : List ℕ) where
           subst₂ (λ (base k : ℕ). AllWithin base k (blocksUpTo r (r .count))) a n
           (blocks-inside r (length (cleared u)) (length (cleared t)) (shaped-is r (length (cleared u)) (length (cleared t)) g) (r .count) (le-refl (r .count)))
 
-  -- ---- for the functions: what a fill asks, of a turn that is the call's
-  within : (n : ℕ) → n ≡ s .length → (xs ys : List Span) → xs ≡ ys → In ys → AllWithin (s .arena) n xs
-  within n l xs ys e w = subst₂ (λ (k : ℕ) (zs : List Span). AllWithin (s .arena) k zs) (sym l) (sym e) w
+  pub unused-inside : Sized s → (c : Call) → In (unused s u t c (step s u t c))
+  unused-inside z (create a) = tt
+  unused-inside z (alloc size) = alloc-inside z size
+  unused-inside z (release a) = release-inside a
+  unused-inside z (shrink a size) = shrink-inside a size
+  unused-inside z (query a) = tt
+  unused-inside z softReset = reset-inside z false
+  unused-inside z hardReset = reset-inside z true
 
-  pub alloc-asks : Sized s → (size : ℕ) (x : Turn) → x ≡ allocTurn s u t size → (n : ℕ) → n ≡ s .length → AllWithin (s .arena) n (made (s .count) (x .state))
-  alloc-asks z size x e n l = within n l _ _ (ap (λ (y : Turn). made (s .count) (y .state)) e) (alloc-inside z size)
+  -- for the functions: what a fill asks, of a turn that is the call's
+  pub asks : Sized s → (c : Call) (x : Turn) → x ≡ step s u t c → (n : ℕ) → n ≡ s .length → AllWithin (s .arena) n (unused s u t c x)
+  asks z c x e n l = subst₂ (λ (k : ℕ) (y : Turn). AllWithin (s .arena) k (unused s u t c y)) (sym l) (sym e) (unused-inside z c)
 
-  pub release-asks : (a : ℕ) (x : Turn) → x ≡ releaseTurn s u t a → (n : ℕ) → n ≡ s .length → AllWithin (s .arena) n (freed (x .answer))
-  release-asks a x e n l = within n l _ _ (ap (λ (y : Turn). freed (y .answer)) e) (release-inside a)
+  -- of the two fills of a shrink
+  pub shrink-asks : Sized s → (a size : ℕ) (was : Answer) → was ≡ queryTurn s u t a .answer → (x : Turn) → x ≡ shrinkTurn s u t a size → (n : ℕ) → n ≡ s .length
+      → AllWithin (s .arena) n (freed (x .answer)) × AllWithin (s .arena) n (cutOff was (x .answer))
+  shrink-asks z a size was q x e n l =
+      within-append (s .arena) n (freed (x .answer)) (cutOff was (x .answer))
+      (subst (λ (w : Answer). AllWithin (s .arena) n (freed (x .answer) ++ cutOff w (x .answer))) (sym q) (asks z (shrink a size) x e n l))
 
-  pub shrink-asks : (a size : ℕ) (was : Answer) → was ≡ queryTurn s u t a .answer → (x : Turn) → x ≡ shrinkTurn s u t a size → (n : ℕ) → n ≡ s .length
-      → AllWithin (s .arena) n (cutOff was (x .answer))
-  shrink-asks a size was q x e n l =
-      within n l _ _ (ap (λ (w : Answer). cutOff w (x .answer)) q ∙ ap (λ (y : Turn). cutOff (queryTurn s u t a .answer) (y .answer)) e) (shrink-inside a size)
-
-  pub reset-asks : Sized s → (hard : Bool) (x : Turn) → x ≡ resetTurn s u t hard → (n : ℕ) → n ≡ s .length → AllWithin (s .arena) n (keptBytes (x .state) (x .answer))
-  reset-asks z hard x e n l = within n l _ _ (ap (λ (y : Turn). keptBytes (y .state) (y .answer)) e) (reset-inside z hard)
-
--- ---- the image afterwards
-module _ (s : State) (u t : List ℕ) (pattern : ℕ) (image : List ℕ) where
-  -- a refusal fills nothing
-  unused-refused : (c : Call) (why : Refusal) → unused s u t c (refuse why s u t) ≡ []
+  -- a call that is refused before it is made fills nothing
+  pub unused-refused : (c : Call) (why : Refusal) → unused s u t c (refuse why s u t) ≡ []
   unused-refused (create a) why = refl
   unused-refused (alloc size) why = made-none (s .count) s (le-refl (s .count))
   unused-refused (release a) why = refl
@@ -203,30 +210,92 @@ module _ (s : State) (u t : List ℕ) (pattern : ℕ) (image : List ℕ) where
   unused-refused softReset why = refl
   unused-refused hardReset why = refl
 
-  abbrev Is : Call → Turn → List ℕ → Type 0
-  Is c x after = (x ≡ lentStep s u t (length image) c) × (after ≡ imageAfter s u t pattern image c)
+  -- nor does one that is refused at all
+  refused-made : (size : ℕ) (why : Refusal) → allocTurn s u t size .answer ≡ Refused why → made (s .count) (allocTurn s u t size .state) ≡ []
+  refused-made size why =
+      alloc-cases (λ (x : Turn). x .answer ≡ Refused why → made (s .count) (x .state) ≡ []) s u t (λ w e. unused-refused (alloc size) w)
+      size (λ bytes k e. made-none (s .count) (searchFor s u bytes .state) (omega (arith, search-count s u bytes)))
+      (λ bytes j i k h e. absurd (let no : _≡_ {A = ℕ} 0 1 = cc in omega arith))
+      (λ bytes at slot k h e. absurd (let no : _≡_ {A = ℕ} 0 1 = cc in omega arith))
+
+  step-refused : (c : Call) (why : Refusal) → step s u t c .answer ≡ Refused why → unused s u t c (step s u t c) ≡ []
+  step-refused (create a) why e = refl
+  step-refused (alloc size) why e = refused-made size why e
+  step-refused (release a) why e = ap freed e
+  step-refused (shrink a size) why e = ap (λ (x : Answer). freed x ++ cutOff (queryTurn s u t a .answer) x) e
+  step-refused (query a) why e = refl
+  step-refused softReset why e = ap (keptBytes (resetTurn s u t false .state)) e
+  step-refused hardReset why e = ap (keptBytes (resetTurn s u t true .state)) e
+
+-- ---- the image afterwards
+module _ (s : State) (u t : List ℕ) (pattern : ℕ) (image : List ℕ) where
+  abbrev IsLent : Call → Turn → List ℕ → Type 0
+  IsLent c x after = (x ≡ lentStep s u t (length image) c) × (after ≡ imageAfter s u t pattern image c)
 
   -- a call, and the fill of what it leaves unused
-  pub does : (c : Call) (x : Turn) (after : List ℕ) → x ≡ step s u t c → lentStep s u t (length image) c ≡ step s u t c
-      → after ≡ filled (s .arena) pattern image (unused s u t c x) → Is c x after
-  does c x after e l f = (e ∙ sym l, f ∙ ap (λ (y : Turn). filled (s .arena) pattern image (unused s u t c y)) (e ∙ sym l))
+  pub lent-fills : (c : Call) (x : Turn) (after : List ℕ) → x ≡ step s u t c → lentStep s u t (length image) c ≡ step s u t c
+      → after ≡ filled (s .arena) pattern image (unused s u t c x) → IsLent c x after
+  lent-fills c x after e l f = (e ∙ sym l, f ∙ ap (λ (y : Turn). filled (s .arena) pattern image (unused s u t c y)) (e ∙ sym l))
+
+  -- the two fills of a shrink come to what it leaves unused
+  pub both-fills : (a size : ℕ) (was : Answer) → was ≡ queryTurn s u t a .answer → (x : Turn) (one two : List ℕ) → one ≡ filled (s .arena) pattern image (freed (x .answer))
+      → two ≡ filled (s .arena) pattern one (cutOff was (x .answer)) → two ≡ filled (s .arena) pattern image (unused s u t (shrink a size) x)
+  both-fills a size was q x one two e f =
+      f ∙ ap (λ (y : List ℕ). filled (s .arena) pattern y (cutOff was (x .answer))) e
+      ∙ sym (filled-append (s .arena) pattern image (freed (x .answer)) (cutOff was (x .answer)))
+      ∙ ap (λ (w : Answer). filled (s .arena) pattern image (freed (x .answer) ++ cutOff w (x .answer))) q
 
   pub not-lent : (c : Call) (r : Outcome) → (length image ≡ s .length → ⊥)
-      → r ≡ refusal s (pick (badShape s (length u) (length t)) BadShape InvalidArgument) → Is c (turn (r .answer) (r .state) u t) image
+      → r ≡ refusal s (pick (badShape s (length u) (length t)) BadShape InvalidArgument) → IsLent c (turn (r .answer) (r .state) u t) image
   not-lent c r ne e =
       let why = pick (badShape s (length u) (length t)) BadShape InvalidArgument in
       let same : refuse why s u t ≡ lentStep s u t (length image) c = sym (lent-refused s u t (length image) (step s u t c) ne) in (
         ap (λ (o : Outcome). turn (o .answer) (o .state) u t) e ∙ same,
-        sym (filled-none (s .arena) pattern image) ∙ ap (filled (s .arena) pattern image) (sym (unused-refused c why))
+        sym (filled-none (s .arena) pattern image) ∙ ap (filled (s .arena) pattern image) (sym (unused-refused s u t c why))
             ∙ ap (λ (y : Turn). filled (s .arena) pattern image (unused s u t c y)) same,
       )
+
+  -- ---- which bytes stay
+  abbrev after : Call → List ℕ
+  after c = imageAfter s u t pattern image c
+
+  -- a refusal fills nothing
+  pub refusal-fills-none : (c : Call) (why : Refusal) → lentStep s u t (length image) c .answer ≡ Refused why → after c ≡ image
+  refusal-fills-none c why e = ap (filled (s .arena) pattern image) (none e) ∙ filled-none (s .arena) pattern image
+    where
+      none : lentStep s u t (length image) c .answer ≡ Refused why → unused s u t c (lentStep s u t (length image) c) ≡ []
+      none =
+          lent-cases s u t (length image) (λ (x : Turn). x .answer ≡ Refused why → unused s u t c x ≡ []) (step s u t c) (λ l. step-refused s u t c why)
+          (λ w e. unused-refused s u t c w)
+
+  -- a byte that is in none of the spans that a call fills stays
+  pub others-stay : Sized s → (c : Call) (k : ℕ) → s .arena ≤ k → Outside k (unused s u t c (lentStep s u t (length image) c))
+      → getD (after c) (k - s .arena) 0 ≡ getD image (k - s .arena) 0
+  others-stay z c k low =
+      lent-cases s u t (length image)
+      (λ (x : Turn). Outside k (unused s u t c x) → getD (filled (s .arena) pattern image (unused s u t c x)) (k - s .arena) 0 ≡ getD image (k - s .arena) 0) (step s u t c)
+      (λ l. filled-stays (s .arena) pattern (s .length) k image (unused s u t c (step s u t c)) (unused-inside s u t z c) low)
+      (λ why o.
+      ap (λ (xs : List Span). getD (filled (s .arena) pattern image xs) (k - s .arena) 0) (unused-refused s u t c why)
+      ∙ ap (λ (y : List ℕ). getD y (k - s .arena) 0) (filled-none (s .arena) pattern image))
+
+  -- a hard reset keeps no block
+  hard-none : keptBytes (resetTurn s u t true .state) (resetTurn s u t true .answer) ≡ []
+  unfolding resetTurn
+  hard-none =
+      picked (λ (x : Turn). keptBytes (x .state) (x .answer) ≡ []) (badShape s (length u) (length t)) (refuse BadShape s u t) _ (λ e. refl) (λ e. blocks-none (emptyTable s))
+
+  pub hard-fills-none : (x : Turn) → x ≡ resetTurn s u t true → image ≡ filled (s .arena) pattern image (unused s u t hardReset x)
+  hard-fills-none x e =
+      sym (filled-none (s .arena) pattern image)
+      ∙ ap (filled (s .arena) pattern image) (sym (ap (λ (y : Turn). keptBytes (y .state) (y .answer)) e ∙ hard-none))
 
 -- ---- the table has room for what is made or kept
 module _ (s : State) (u t : List ℕ) where
   pub made-few : Sized s → (size : ℕ) → s .count < allocTurn s u t size .state .count → s .count < 64
   made-few z size = alloc-cases P s u t (λ why g h. absurd (omega (arith, h)))
-      size (λ bytes k g h. absurd (omega (arith, h, same bytes)))
-      (λ bytes j i k e g h. absurd (omega (arith, h, same bytes)))
+      size (λ bytes k g h. absurd (omega (arith, h, search-count s u bytes)))
+      (λ bytes j i k e g h. absurd (omega (arith, h, search-count s u bytes)))
       (λ bytes at slot k p g h.
       let r = searchFor s u bytes .state in
       let x = makeTurn r u t (poolFor s bytes) (unitsFor s bytes) (newSize r (poolFor s bytes) bytes) at slot in
@@ -235,9 +304,6 @@ module _ (s : State) (u t : List ℕ) where
     where
       P : Turn → Type 0
       P x = (goodShape s (length u) (length t) ≡ true → Good x) → s .count < x .state .count → s .count < 64
-
-      same : (bytes : ℕ) → searchFor s u bytes .state .count ≡ s .count
-      same bytes = ap (λ (r : State). r .count) (search-other s u (poolFor s bytes) (unitsFor s bytes))
 
   pub kept-few : Sized s → (hard : Bool) → resetTurn s u t hard .answer ≡ Reset → resetTurn s u t hard .state .count ≤ 64
   kept-few z hard =

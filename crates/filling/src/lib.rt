@@ -12,14 +12,20 @@ ghost use Rattle.rules.specs.Turn.{turn};
 ghost use Rattle.rules.specs.Machine.{alloc, release, shrink, softReset, hardReset};
 ghost use Rattle.unused.specs.Unused.{lentStep, imageAfter};
 
-// What a call answers where the image is not as long as the arena: a bad shape comes first.
+// Why a call is refused where the image is not as long as the arena: a bad shape comes first.
+pub fn wrong_image(s: State, used: usize, stop: usize) -> Refusal
+    ensures { λ r. ⌜ r ≡ pick (badShape s used stop) BadShape InvalidArgument ⌝ }
+{
+    if !whole::shape_ok(s, used, stop) {
+        return Refusal::BadShape;
+    }
+    Refusal::InvalidArgument
+}
+
 fn not_lent(s: State, used: usize, stop: usize) -> Outcome
     ensures { λ r. ⌜ r ≡ refusal s (pick (badShape s used stop) BadShape InvalidArgument) ⌝ }
 {
-    if !whole::shape_ok(s, used, stop) {
-        return state::refused(s, Refusal::BadShape);
-    }
-    state::refused(s, Refusal::InvalidArgument)
+    state::refused(s, wrong_image(s, used, stop))
 }
 
 // A span of at least `size` bytes; a new block is filled.
@@ -85,8 +91,9 @@ pub fn shrink(
     let arena = s.arena;
     let was = query::query(s, used, stop, address);
     let r = shrink::shrink(s, used, stop, address, size);
-    let answer = r.answer;
-    unused::fill_cut_off(image, arena, was, answer, pattern);
+    let after = r.answer;
+    unused::fill_freed(image, arena, after, pattern);
+    unused::fill_cut_off(image, arena, was, after, pattern);
     r
 }
 
@@ -104,11 +111,7 @@ pub fn hard_reset(
     if image.len() as u64 != s.length {
         return not_lent(s, used.len(), stop.len());
     }
-    let arena = s.arena;
-    let r = reset::hard_reset(s, used, stop);
-    let answer = r.answer;
-    unused::fill_kept(image, arena, r.state, answer, pattern);
-    r
+    reset::hard_reset(s, used, stop)
 }
 
 // Each pool keeps its oldest block, emptied, and all of its bytes are filled.

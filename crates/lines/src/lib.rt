@@ -4,14 +4,14 @@ use state::Refusal;
 use state::Span;
 ghost use mathlib.Core.Path.{_≡_};
 ghost use mathlib.Core.List.{[], _∷_};
-ghost use Prim.Native.Nat.{_+_, _≤_, _<_};
+ghost use Prim.Native.Nat.{_+_, _≤_};
 ghost use lib.ListN.{length};
 ghost use Rattle.rules.specs.Turn.{number};
 ghost use Rattle.text.specs.Line.{line};
 ghost use Rattle.put.specs.Put.{Puts};
 ghost use Rattle.lines.specs.Lines.{span, answerLine};
 
-fn refusal_number(why: Refusal) -> u64
+pub fn refusal_number(why: Refusal) -> u64
     ensures { λ r. ⌜ r ≡ number why ⌝ }
 {
     match why {

@@ -1,14 +1,14 @@
 -- Laws of rounding by a mask. Assumes nothing.
 use Prim.Native.Nat.{ℕ, zero, suc, _+_, _-_, _*_, _/_, _%_, _^_, _≤_, _<_, min}
-use mathlib.Core.Path.{_≡_, refl, sym, ap, ap₂, _∙_, subst}
+use mathlib.Core.Path.{_≡_, sym, ap, ap₂, _∙_, subst}
 use mathlib.Core.Logic.{_⊎_, inl, inr, ⊎-elim, _↔_}
 use native.Mathlib.Nat.{pow-suc, mod-lt, mod-eq-of-lt, div-eq-of-lt, zero-mul, lt-div-mul-add, dvd-sub, mod-eq-zero-of-dvd, dvd-of-mod-eq-zero, mul-mod-left}
 use native.Mathlib.Omega.{arith}
 use lib.Arith.{lt-one}
-use lib.Bits.{bitAnd, and-step, and-zero-l, and-zero-r, and-le-l, and-le-r, and-mod, and-high}
+use lib.Bits.{bitAnd, and-step, and-zero-l, and-zero-r, and-le-r, and-mod, and-high}
 use lib.Pow.{pow-pos, pow-add, pow-mono, shr-mod}
 use Rattle.numbers.specs.Align.{without, alignDown, alignUp}
-use Rattle.numbers.proofs.Split.{le-or-lt, eq-or-ne}
+use Rattle.numbers.proofs.Split.{le-or-lt}
 
 -- ---- the digits that m has, and those that it has not
 not-half : (k m : ℕ) → m < 2 ^ suc k → ((2 ^ suc k - 1) - m) / 2 ≡ (2 ^ k - 1) - m / 2

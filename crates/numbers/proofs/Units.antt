@@ -1,6 +1,6 @@
 -- Laws of bytes and units, over any unit. Assumes nothing.
-use Prim.Native.Nat.{ℕ, zero, suc, _+_, _-_, _*_, _/_, _%_, _^_, _≤_, _<_}
-use mathlib.Core.Path.{_≡_, refl, sym, ap, _∙_, subst}
+use Prim.Native.Nat.{ℕ, _+_, _-_, _*_, _/_, _%_, _≤_, _<_}
+use mathlib.Core.Path.{_≡_, ap, _∙_}
 use mathlib.Core.Logic.{_↔_}
 use native.Mathlib.Nat.{div-lt-iff-lt-mul, mul-add-div-right, div-eq-of-lt, div-mul-le-self, lt-div-mul-add, div-add-mod', mod-lt, add-zero}
 use native.Mathlib.Omega.{arith}

@@ -1,5 +1,5 @@
 -- The spans that are out in one block, in units from its base, and what they paint on its two maps. Assumes nothing.
-use Prim.Native.Nat.{ℕ, _+_, _-_, _≤_, _<_}
+use Prim.Native.Nat.{ℕ, _+_, _≤_, _<_}
 use mathlib.Core.List.{List, [], _∷_}
 use mathlib.Core.Bool.{false}
 use mathlib.Core.Logic.{_⊎_}

@@ -5,7 +5,6 @@ use state::Held;
 use state::Refusal;
 use state::State;
 ghost use mathlib.Core.Path.{_≡_};
-ghost use lib.ListN.{length};
 ghost use Rattle.rules.specs.Span.{queryTurn};
 
 // The span that starts at an address. Nothing changes.

@@ -1,5 +1,5 @@
 -- Bytes that come behind a record do not change it. Assumes nothing.
-use Prim.Native.Nat.{ℕ, _+_, _*_, _≤_, _<_}
+use Prim.Native.Nat.{ℕ, _+_, _*_, _≤_}
 use mathlib.Core.Bool.{Bool, true, false}
 use mathlib.Core.List.{List, _++_}
 use mathlib.Core.Path.{_≡_, refl, sym, ap, ap₂, subst, _∙_}
@@ -9,9 +9,7 @@ use lib.Dec.{ltb, eqb}
 use lib.ListN.{length, length-append, List·getD-append}
 use Rattle.numbers.specs.Pick.{pick}
 use Rattle.numbers.proofs.Split.{by-eq}
-use Rattle.records.specs.declared.Asked.{Asked}
-use Rattle.records.specs.declared.Call.{Call}
-use Rattle.records.specs.declared.Call.the-variants.{Create, Alloc, Release, Shrink, Query, HardReset}
+use Rattle.records.specs.declared.Call.the-variants.{Create, Alloc, Release, Shrink, Query}
 use Rattle.records.specs.declared.Payload.{Payload}
 use Rattle.records.specs.declared.Payload.the-variants.{Bytes, Unknown}
 use Rattle.records.specs.declared.Record.{Record}

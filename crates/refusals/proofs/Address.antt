@@ -1,9 +1,9 @@
 -- The refusals of query, release and shrink, each exactly under its condition. Assumes nothing.
-use Prim.Native.Nat.{ℕ, _+_, _-_, _*_, _/_, _%_, _≤_, _<_}
+use Prim.Native.Nat.{ℕ, _+_, _-_, _≤_, _<_}
 use mathlib.Core.Bool.{Bool, true, false, not, _||_}
 use mathlib.Core.List.{List}
 use mathlib.Core.Logic.{_⊎_, inl, inr, ⊎-elim}
-use mathlib.Core.Path.{_≡_, refl, sym, ap, subst, _∙_}
+use mathlib.Core.Path.{_≡_, refl, ap, _∙_}
 use native.Mathlib.Nat.{div-eq-of-lt}
 use native.Mathlib.Omega.{arith}
 use borrow.Author.Tests.{eqb-true, eqb-false, eq-eqb, ne-eqb, lt-ltb, le-ltb, ltb-true, ltb-false}
@@ -11,7 +11,7 @@ use lib.Dec.{ltb, eqb}
 use lib.ListN.{length}
 use Rattle.numbers.specs.Pick.{pick}
 use Rattle.numbers.specs.Units.{unitsOf, bytesOf}
-use Rattle.numbers.proofs.Split.{by-eq, by-le}
+use Rattle.numbers.proofs.Split.{by-eq}
 use Rattle.block.specs.Marking.{markReleased}
 use Rattle.state.specs.declared.State.{State}
 use Rattle.state.specs.declared.Span.{Span}
@@ -32,7 +32,7 @@ use Rattle.rules.specs.Span.{heldIn, shownTurn, queriedTurn, queryTurn}
 use Rattle.rules.specs.Release.{lessUsed, freeTurn, releasedTurn, givenBackTurn, releaseTurn}
 use Rattle.rules.specs.Shrink.{cutTurn, unitsTurn, shrunkTurn, cutDownTurn, shrinkTurn}
 use Rattle.rules.specs.Machine.{Call, release, shrink, query}
-use Rattle.refusals.specs.When.{Good, Bad, InNone, InBlock, unitAt, IsStart, NoStop, HasUnits, When, Told}
+use Rattle.refusals.specs.When.{Good, Bad, InNone, InBlock, unitAt, IsStart, HasUnits, When, Told}
 use Rattle.refusals.proofs.Look.{Looks, looks, at-none, not-zero, at-block, Seen, seen, held-none, held-endless, held-units, unit-some}
 
 module _ (s : State) (u t : List ℕ) where

@@ -1,11 +1,11 @@
 -- The refusals of alloc, each exactly under its condition. Assumes nothing.
-use Prim.Native.Nat.{ℕ, _+_, _-_, _*_, _/_, _%_, _≤_, _<_}
-use mathlib.Core.Bool.{Bool, true, false, not}
+use Prim.Native.Nat.{ℕ, _*_, _/_, _≤_, _<_}
+use mathlib.Core.Bool.{Bool, true, false}
 use mathlib.Core.List.{List}
 use mathlib.Core.Logic.{_⊎_, inl, inr}
 use mathlib.Core.Path.{_≡_, refl, sym, ap, ap₂, subst, _∙_}
 use native.Mathlib.Omega.{arith}
-use borrow.Author.Tests.{eqb-true, eqb-false, eq-eqb, ne-eqb, lt-ltb, le-ltb, ltb-true, ltb-false, leb-true, leb-false, le-leb, lt-leb}
+use borrow.Author.Tests.{eqb-true, eqb-false, eq-eqb, ne-eqb, lt-ltb, le-ltb, ltb-true, ltb-false, leb-false, lt-leb}
 use lib.Dec.{leb, ltb, eqb}
 use lib.ListN.{length}
 use Rattle.numbers.specs.Pick.{pick}
@@ -13,12 +13,9 @@ use Rattle.numbers.specs.Align.{alignUp}
 use Rattle.numbers.specs.Units.{unitsOf}
 use Rattle.numbers.proofs.Units.{units-hold}
 use Rattle.numbers.proofs.Split.{by-eq}
-use Rattle.sizes.specs.declared.Rounded.{Rounded}
 use Rattle.sizes.specs.declared.Rounded.the-variants.{To, Refused as tooBad}
-use Rattle.sizes.specs.Pools.{poolOf}
 use Rattle.sizes.proofs.Pools.{pool-below}
 use Rattle.sizes.specs.Sizes.{accepted, rounded, idealSize}
-use Rattle.block.specs.Search.{lookInto}
 use Rattle.state.specs.declared.State.{State}
 use Rattle.state.specs.declared.Found.{Found}
 use Rattle.state.specs.declared.Found.the-variants.{At as slotAt, Nothing}
@@ -29,16 +26,16 @@ use Rattle.state.specs.declared.Hit.the-variants.{At, Nowhere}
 use Rattle.state.specs.declared.Refusal.{Refusal}
 use Rattle.state.specs.declared.Refusal.the-variants.{InvalidArgument, TooLarge, InvalidState, NoMapping, BadShape, Damaged}
 use Rattle.state.specs.declared.Answer.{Answer}
-use Rattle.state.specs.declared.Answer.the-variants.{Granted, Refused}
-use Rattle.state.specs.Table.{blockAt, poolAt}
+use Rattle.state.specs.declared.Answer.the-variants.{Refused}
+use Rattle.state.specs.Table.{poolAt}
 use Rattle.state.specs.Shape.{goodShape}
 use Rattle.state.specs.Find.{least, slotFree, lowestSlot, placeFree, placed, lowestPlace, newestSize}
 use Rattle.state.proofs.Find.{Least, least-of, least-only}
 use Rattle.shape.specs.Shaped.{Shaped}
 use Rattle.shape.proofs.Shaped.{shaped-is}
-use Rattle.rules.specs.Turn.{Turn, turn, refuse}
-use Rattle.rules.specs.Alloc.{searchPool, markTurn, makeTurn, placeTurn, newTurn, searchedTurn, poolTurn, sizeTurn, allocTurn}
-use Rattle.rules.specs.Machine.{Call, alloc}
+use Rattle.rules.specs.Turn.{Turn, refuse}
+use Rattle.rules.specs.Alloc.{searchPool, makeTurn, placeTurn, newTurn, searchedTurn, poolTurn, sizeTurn, allocTurn}
+use Rattle.rules.specs.Machine.{alloc}
 use Rattle.facts.proofs.Facts.{unit-g}
 use Rattle.facts.proofs.Search.{Left, search-left}
 use Rattle.facts.proofs.Searched.{OtherBlocks, search-other}

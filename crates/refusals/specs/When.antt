@@ -1,6 +1,6 @@
 -- Document 01, Refusal numbers: exactly when each is given, of the state before the call. Assumes nothing.
-use Prim.Native.Nat.{ℕ, zero, suc, _+_, _-_, _*_, _/_, _%_, _≤_, _<_}
-use mathlib.Core.Bool.{Bool, true, false}
+use Prim.Native.Nat.{ℕ, _+_, _-_, _/_, _%_, _≤_, _<_}
+use mathlib.Core.Bool.{true, false}
 use mathlib.Core.List.{List}
 use mathlib.Core.Logic.{_⊎_}
 use mathlib.Core.Path.{_≡_}
@@ -9,7 +9,6 @@ use Rattle.numbers.specs.Align.{alignUp}
 use Rattle.numbers.specs.Units.{unitsOf}
 use Rattle.bits.specs.Bits.{bit}
 use Rattle.slots.specs.Slots.{slotOf}
-use Rattle.block.specs.declared.Block.{Block}
 use Rattle.block.specs.declared.Looked.the-variants.{Found}
 use Rattle.block.specs.Search.{lookInto}
 use Rattle.sizes.specs.Pools.{poolOf}
@@ -23,7 +22,7 @@ use Rattle.state.specs.Table.{blockAt, poolAt}
 use Rattle.state.specs.Shape.{goodShape, inPool}
 use Rattle.state.specs.Find.{holds, slotFree, placeFree, newestSize}
 use Rattle.rules.specs.Turn.{unitOf}
-use Rattle.rules.specs.Create.{Asked, grantable}
+use Rattle.rules.specs.Create.{grantable}
 use Rattle.rules.specs.Span.{starts}
 use Rattle.rules.specs.Machine.{Call, create, alloc, release, shrink, query, softReset, hardReset}
 

@@ -1,8 +1,8 @@
 -- What a refusal changes: nothing, but for the windows that the search of refusal 4 tightened. Assumes nothing.
-use Prim.Native.Nat.{ℕ, _-_, _*_}
+use Prim.Native.Nat.{ℕ, _-_}
 use mathlib.Core.Bool.{Bool, true, false, not, _||_}
 use mathlib.Core.List.{List}
-use mathlib.Core.Path.{_≡_, refl}
+use mathlib.Core.Path.{refl}
 use lib.Dec.{ltb, leb, eqb}
 use lib.ListN.{length}
 use Rattle.numbers.specs.Pick.{pick}
@@ -22,7 +22,6 @@ use Rattle.state.specs.declared.Hit.{Hit}
 use Rattle.state.specs.declared.Hit.the-variants.{At, Nowhere}
 use Rattle.state.specs.declared.Refusal.{Refusal}
 use Rattle.state.specs.declared.Refusal.the-variants.{InvalidArgument, TooLarge, InvalidState, NoMapping, BadShape, Damaged}
-use Rattle.state.specs.declared.Answer.{Answer}
 use Rattle.state.specs.declared.Answer.the-variants.{Released, Shrunk, Reset}
 use Rattle.state.specs.declared.Span.{Span}
 use Rattle.state.specs.Table.{zeroState, blockAt, poolAt}

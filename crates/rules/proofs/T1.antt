@@ -1,6 +1,5 @@
 -- Document 01's T1, computed by the machine: the program's 8,192 words of each map. Assumes nothing.
-use Prim.Native.Nat.{ℕ, zero, suc, _+_}
-use mathlib.Core.Bool.{Bool, true, false}
+use Prim.Native.Nat.{ℕ, _+_}
 use mathlib.Core.List.{List, [], _∷_}
 use mathlib.Core.Path.{_≡_, refl}
 use lib.ListN.{replicate}
@@ -13,20 +12,20 @@ use Rattle.sizes.specs.Pools.{poolOf}
 use Rattle.sizes.specs.Sizes.{rounded, idealSize}
 use Rattle.state.specs.declared.State.{State}
 use Rattle.state.specs.declared.Answer.{Answer}
-use Rattle.state.specs.declared.Answer.the-variants.{Created, Granted, Released, Shrunk, Shown, Reset, Refused}
+use Rattle.state.specs.declared.Answer.the-variants.{Created, Granted, Released, Shrunk, Reset, Refused}
 use Rattle.state.specs.declared.Refusal.the-variants.{InvalidArgument, InvalidState}
 use Rattle.state.specs.Table.{zeroState, poolAt, all, sum}
 use Rattle.state.specs.Shape.{clauses}
 use Rattle.state.specs.Find.{leastFrom, latest}
 use Rattle.state.specs.Change.{listFrom}
-use Rattle.rules.specs.Turn.{Turn, span}
-use Rattle.rules.specs.Create.{Asked, createTurn}
+use Rattle.rules.specs.Turn.{span}
+use Rattle.rules.specs.Create.{createTurn}
 use Rattle.rules.specs.Alloc.{searchFrom, allocTurn}
 use Rattle.rules.specs.Span.{queryTurn}
 use Rattle.rules.specs.Release.{releaseTurn}
 use Rattle.rules.specs.Shrink.{shrinkTurn}
 use Rattle.rules.specs.Reset.{clearBlocks, kept, resetTurn}
-use Rattle.rules.specs.Machine.{Call, create, alloc, release, shrink, query, softReset, hardReset, step}
+use Rattle.rules.specs.Machine.{Call, create, alloc, release, shrink, query, softReset, step}
 
 answersOf : State → List ℕ → List ℕ → List Call → List Answer
 answersOf s u t [] = []

@@ -1,15 +1,13 @@
 -- Document 01, Size, Pool, Search, New block and Marking: the call alloc. Assumes nothing.
-use Prim.Native.Nat.{ℕ, zero, suc, _+_, _-_, _*_}
-use mathlib.Core.Bool.{Bool, true, false, _&&_}
+use Prim.Native.Nat.{ℕ, zero, suc, _+_, _-_}
 use mathlib.Core.List.{List}
 use lib.Dec.{leb, eqb}
 use lib.ListN.{length}
 use Rattle.numbers.specs.Pick.{pick}
 use Rattle.numbers.specs.Units.{unitsOf, bytesOf}
-use Rattle.block.specs.declared.Block.{Block}
 use Rattle.block.specs.declared.Looked.{Looked}
 use Rattle.block.specs.declared.Looked.the-variants.{Found as found, Missed as missed}
-use Rattle.block.specs.Marking.{Painted, markAllocated, fresh}
+use Rattle.block.specs.Marking.{markAllocated, fresh}
 use Rattle.block.specs.Search.{lookInto}
 use Rattle.sizes.specs.declared.Rounded.{Rounded}
 use Rattle.sizes.specs.declared.Rounded.the-variants.{To, Refused}

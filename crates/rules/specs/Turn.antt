@@ -1,5 +1,5 @@
 -- What a call leaves: its answer, the record and the two maps; the refusals by their numbers; and the record with a part of it changed. Assumes nothing.
-use Prim.Native.Nat.{ℕ, _+_, _-_, _*_}
+use Prim.Native.Nat.{ℕ}
 use mathlib.Core.List.{List}
 use lib.ListN.{set, replicate}
 use Rattle.slots.specs.Slots.{putSlot}
@@ -11,7 +11,7 @@ use Rattle.state.specs.declared.Refusal.{Refusal}
 use Rattle.state.specs.declared.Refusal.the-variants.{InvalidArgument, TooLarge, InvalidState, NoMapping, BadShape, Damaged}
 use Rattle.state.specs.declared.Answer.{Answer}
 use Rattle.state.specs.declared.Answer.the-variants.{Refused}
-use Rattle.state.specs.Table.{blockAt, poolAt}
+use Rattle.state.specs.Table.{poolAt}
 use Rattle.state.specs.Change.{withRest, withTable}
 
 -- ---- the numbers of the refusals

@@ -1,7 +1,7 @@
 -- Laws of a walk over the runs of clear bits. Assumes nothing.
-use Prim.Native.Nat.{ℕ, zero, suc, _+_, _-_, _*_, _/_, _%_, _^_, _≤_, _<_, min, max}
-use mathlib.Core.Path.{_≡_, refl, sym, ap, _∙_, subst}
-use mathlib.Core.Bool.{Bool, true, false}
+use Prim.Native.Nat.{ℕ, _+_, _-_, _*_, _^_, _≤_, _<_, min, max}
+use mathlib.Core.Path.{_≡_, sym, ap, _∙_, subst}
+use mathlib.Core.Bool.{false}
 use mathlib.Core.List.{List}
 use mathlib.Core.Logic.{_⊎_, inl, inr, ⊎-elim}
 use native.Mathlib.Nat.{eq-zero-or-pos}
@@ -9,7 +9,6 @@ use native.Mathlib.Omega.{arith}
 use lib.Dec.{lit<}
 use lib.Count.{trailingZeros}
 use lib.ListN.{length, getD}
-use lib.Pow.{pow-pos}
 use Rattle.numbers.proofs.Split.{le-or-lt}
 use Rattle.bits.specs.Bits.{digit, bit, Words}
 use Rattle.bits.specs.Walk.{flipped, Seen}
@@ -19,7 +18,7 @@ use Rattle.bits.proofs.Find.{flipped-lt, flip-one, flip-zero, fromDigit, from-l
 use Rattle.runs.specs.Window.{FreeAt, UsedIn, NoFit, Lowest, Tightened, Sought, FreeRun}
 use Rattle.runs.specs.Walk.{ClearIn, Ends, RunFrom}
 use Rattle.runs.specs.declared.Search.{Search}
-use Rattle.runs.specs.declared.Search.the-variants.{At, Tight, Full}
+use Rattle.runs.specs.declared.Search.the-variants.{Tight, Full}
 use Rattle.runs.specs.declared.Walk.{Walk}
 
 pub used-is : (ws : List ℕ) (k : ℕ) → (bit ws k ≡ 0 → ⊥) → bit ws k ≡ 1

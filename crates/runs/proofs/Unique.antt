@@ -1,10 +1,9 @@
 -- No second answer of a search: what `Sought` says of an answer fixes it. Assumes nothing.
-use Prim.Native.Nat.{ℕ, zero, suc, _+_, _-_, _≤_, _<_}
-use mathlib.Core.Path.{_≡_, refl, sym, ap, ap₂, _∙_}
+use Prim.Native.Nat.{ℕ, _+_, _-_, _≤_, _<_}
+use mathlib.Core.Path.{_≡_, refl, ap}
 use mathlib.Core.List.{List}
 use native.Mathlib.Omega.{arith}
 use Rattle.numbers.proofs.Split.{same-of-not-lt}
-use Rattle.bits.specs.Bits.{bit}
 use Rattle.runs.specs.Window.{FreeAt, UsedIn, Lowest, Tightened, Sought}
 use Rattle.runs.specs.declared.Search.{Search}
 use Rattle.runs.specs.declared.Search.the-variants.{At, Tight, Full}

@@ -22,7 +22,7 @@ use Rattle.calls.specs.Calls.{callBy}
 use Rattle.trace.specs.Play.{Run, stopped, afterRecord, play}
 use Rattle.sessions.specs.Output.{output}
 use Rattle.sessions.proofs.Whole.{enough}
-use Rattle.sessions.proofs.Pieces.{all, then, pieces}
+use Rattle.sessions.proofs.Pieces.{all, pieces}
 
 -- what is written from a state and an offset on
 abbrev pub from : State → List ℕ → List ℕ → ℕ → List ℕ → List ℕ

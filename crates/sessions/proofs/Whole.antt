@@ -15,7 +15,7 @@ use Rattle.records.specs.Records.{recordOf}
 use Rattle.records.proofs.Ways.{no-head, whole-size}
 use Rattle.lines.specs.Lines.{answerLine}
 use Rattle.calls.specs.Calls.{callBy}
-use Rattle.trace.specs.Play.{Run, behind, afterRecord, play}
+use Rattle.trace.specs.Play.{behind, afterRecord, play}
 use Rattle.sessions.specs.Output.{whole, output}
 
 next : (k : ℕ) (s : State) (u t bs : List ℕ) (r : Record) → recordOf bs ≡ r → length bs ≤ suc k

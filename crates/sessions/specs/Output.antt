@@ -2,7 +2,6 @@
 use Prim.Native.Nat.{ℕ, _-_}
 use mathlib.Core.List.{List, _++_}
 use lib.ListN.{length}
-use Rattle.state.specs.declared.State.{State}
 use Rattle.state.specs.Table.{zeroState}
 use Rattle.last.specs.Last.{lastLine}
 use Rattle.trace.specs.Play.{Run, play}

@@ -2,17 +2,16 @@
 use Prim.Native.Nat.{ℕ, _+_, _*_, _%_, _<_}
 use mathlib.Core.Path.{_≡_, refl, sym, _∙_}
 use mathlib.Core.Bool.{Bool, true, false, not}
-use mathlib.Core.List.{List, [], _∷_}
 use native.Mathlib.Omega.{arith}
 use native.Mathlib.Nat.{mul-le-mul}
-use lib.Dec.{leb, ltb, eqb}
+use lib.Dec.{eqb}
 use lib.ListN.{getD}
 use borrow.Author.Tests.{leb-true, ltb-true, eqb-true, eq-eqb, not-true}
 use Rattle.numbers.specs.Pick.{pick}
 use Rattle.block.specs.declared.Block.{Block}
 use Rattle.state.specs.declared.State.{State}
 use Rattle.state.specs.Table.{blockAt}
-use Rattle.state.specs.Shape.{isEmpty, emptyOk, flagsOk}
+use Rattle.state.specs.Shape.{isEmpty}
 use Rattle.state.proofs.Tests.{every-at}
 use Rattle.shape.specs.Parts.{blockTests, blockOk}
 use Rattle.shape.specs.Facts.{Headed, Sound, SoundIn, Laid}

@@ -5,7 +5,6 @@ use state::Outcome;
 use state::Refusal;
 use state::State;
 ghost use mathlib.Core.Path.{_≡_};
-ghost use lib.ListN.{length};
 ghost use Rattle.rules.specs.Turn.{turn};
 ghost use Rattle.rules.specs.Shrink.{shrinkTurn};
 

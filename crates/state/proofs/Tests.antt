@@ -1,6 +1,6 @@
 -- Laws of tests: of one and another, of a list, of every index, and of sums. Assumes nothing.
 use Prim.Native.Nat.{ℕ, zero, suc, _+_, _*_, _≤_, _<_}
-use mathlib.Core.Bool.{Bool, true, false, not, _&&_}
+use mathlib.Core.Bool.{Bool, true, false, _&&_}
 use mathlib.Core.List.{List, [], _∷_}
 use mathlib.Core.Path.{_≡_, refl, sym, ap, ap₂, _∙_}
 use native.Mathlib.Nat.{not-suc-le-zero, suc-mul}
@@ -8,7 +8,7 @@ use native.Mathlib.Numerals.{add-one}
 use native.Mathlib.Omega.{arith}
 use lib.ListN.{getD}
 use Rattle.numbers.proofs.Split.{by-eq}
-use Rattle.state.specs.Table.{all, allPairs, sum, one}
+use Rattle.state.specs.Table.{all, allPairs, sum}
 use Rattle.state.specs.Shape.{every}
 
 pub and-left : (a b : Bool) → a && b ≡ true → a ≡ true

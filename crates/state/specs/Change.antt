@@ -1,6 +1,5 @@
 -- A block enters the table or leaves it: records by age, positions by address, zeros behind both, and its pool's block count and area. Assumes nothing.
 use Prim.Native.Nat.{ℕ, zero, suc, _+_, _-_}
-use mathlib.Core.Bool.{Bool}
 use mathlib.Core.List.{List, [], _∷_}
 use lib.Dec.{ltb, eqb}
 use lib.ListN.{getD, set}

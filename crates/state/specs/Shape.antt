@@ -1,13 +1,12 @@
 -- Document 01, BadShape: its clauses as they are printed, in their order. A state is BadShape if one of them fails. No word is read, only the two
 -- lengths. Assumes nothing.
 use Prim.Native.Nat.{ℕ, _+_, _-_, _*_, _%_, _^_}
-use mathlib.Core.Bool.{Bool, true, false, not, _&&_, _||_}
+use mathlib.Core.Bool.{Bool, true, not, _&&_, _||_}
 use mathlib.Core.List.{List, [], _∷_}
 use lib.Dec.{leb, ltb, eqb}
 use Rattle.numbers.specs.Pick.{pick}
 use Rattle.block.specs.declared.Block.{Block}
 use Rattle.block.specs.Record.{emptyFlag, dirtyFlag, isOn}
-use Rattle.sizes.specs.declared.Pool.{Pool}
 use Rattle.sizes.specs.Limits.{isGranularity, isBaseSize}
 use Rattle.state.specs.declared.State.{State}
 use Rattle.state.specs.Table.{blockAt, ageAt, poolAt, all, allPairs, sum, one, only}

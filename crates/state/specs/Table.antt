@@ -1,7 +1,6 @@
 -- The record's lists, by index, and sums over them. Assumes nothing.
 use Prim.Native.Nat.{ℕ, zero, suc, _+_}
 use mathlib.Core.Bool.{Bool, true, false, _&&_}
-use mathlib.Core.List.{List}
 use lib.ListN.{getD, replicate}
 use Rattle.numbers.specs.Pick.{pick}
 use Rattle.block.specs.declared.Block.{Block}

@@ -7,7 +7,6 @@ use sizes::Pool;
 use state::Answer;
 use state::State;
 ghost use mathlib.Core.Path.{_≡_};
-ghost use Prim.Native.Nat.{_≤_};
 ghost use lib.ListN.{length};
 
 // ---- numbers

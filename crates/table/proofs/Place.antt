@@ -1,7 +1,7 @@
 -- The lowest place for a new block, by the order of addresses. Assumes nothing.
-use Prim.Native.Nat.{ℕ, _+_, _-_, _*_, _/_, _%_, _^_, _≤_, _<_}
-use mathlib.Core.Bool.{Bool, true, false, not, _&&_}
-use mathlib.Core.Logic.{_⊎_, inl, inr, ⊎-elim}
+use Prim.Native.Nat.{ℕ, _+_, _-_, _/_, _%_, _^_, _≤_, _<_}
+use mathlib.Core.Bool.{true, false}
+use mathlib.Core.Logic.{_⊎_, inl, inr}
 use mathlib.Core.Path.{_≡_, refl, sym, ap, subst, _∙_}
 use native.Mathlib.Omega.{arith}
 use borrow.Author.Tests.{le-leb, lt-leb, lt-ltb, le-ltb}
@@ -11,15 +11,13 @@ use Rattle.numbers.proofs.Align.{up-low, up-high, up-divides}
 use Rattle.numbers.proofs.Split.{by-eq, by-le}
 use Rattle.block.specs.declared.Block.{Block}
 use Rattle.state.specs.declared.State.{State}
-use Rattle.state.specs.declared.Found.{Found}
 use Rattle.state.specs.declared.Found.the-variants.{At, Nothing}
-use Rattle.state.specs.declared.Place.{Place}
 use Rattle.state.specs.declared.Place.the-variants.{Address, Nowhere}
 use Rattle.state.specs.Table.{blockAt, ageAt, all}
 use Rattle.state.specs.Find.{clear, placeAt, placeFree, placed, lowestPlace}
 use Rattle.state.proofs.Tests.{and-both, and-fails-left, and-fails-right, all-of, all-fails}
 use Rattle.state.proofs.Find.{least-only}
-use Rattle.table.specs.Ordered.{Ordered, Arranged}
+use Rattle.table.specs.Ordered.{Arranged}
 
 pub clear-out : (b : Block) (at size : ℕ) → (at + size ≤ b .base) ⊎ (b .base + b .size ≤ at) → clear b at size ≡ true
 clear-out b at size (inl p) = rw (le-ltb (b .base) (at + size) p)

@@ -1,5 +1,5 @@
 -- What the functions on the table ask of it: parts of a good shape. Assumes nothing.
-use Prim.Native.Nat.{ℕ, _+_, _*_, _%_, _^_, _≤_, _<_}
+use Prim.Native.Nat.{ℕ, _+_, _%_, _^_, _≤_, _<_}
 use mathlib.Core.Bool.{Bool, false, not}
 use lib.Dec.{eqb}
 use mathlib.Core.List.{List}

@@ -1,17 +1,16 @@
 -- A run on its way: the lines so far, and the run of what is left. Assumes nothing.
-use Prim.Native.Nat.{ℕ, zero, suc, _+_, _-_, _*_, _/_, _≤_, _<_}
+use Prim.Native.Nat.{ℕ, suc, _+_, _-_, _*_, _/_, _≤_, _<_}
 use mathlib.Core.Bool.{Bool, true, false}
 use mathlib.Core.List.{List, [], _++_, append-assoc, append-nil}
 use mathlib.Core.Path.{_≡_, refl, sym, ap, subst, _∙_}
-use native.Mathlib.Nat.{add-assoc, div-mul-le-self}
+use native.Mathlib.Nat.{div-mul-le-self}
 use native.Mathlib.Omega.{arith}
 use lib.ListN.{length, drop, length-drop}
 use lib.Seq.{drop-drop}
 use Rattle.state.specs.declared.State.{State}
-use Rattle.rules.specs.Turn.{Turn, turn}
+use Rattle.rules.specs.Turn.{Turn}
 use Rattle.rules.specs.Machine as machine
 use Rattle.records.specs.declared.Call.{Call}
-use Rattle.records.specs.declared.Record.{Record}
 use Rattle.records.specs.declared.Record.the-variants.{Cut, Bad, Whole}
 use Rattle.records.specs.Records.{recordOf}
 use Rattle.lines.specs.Lines.{answerLine}

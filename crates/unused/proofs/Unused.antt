@@ -5,7 +5,7 @@ use mathlib.Core.Path.{_≡_, refl, sym, ap, _∙_, subst}
 use native.Mathlib.Nat.{eq-or-lt-of-le, le-of-suc-le-suc}
 use native.Mathlib.Numerals.{add-one}
 use native.Mathlib.Omega.{arith}
-use mathlib.Core.Bool.{Bool, true, false}
+use mathlib.Core.Bool.{Bool}
 use mathlib.Core.Logic.{_⊎_, inl, inr, ⊎-elim}
 use borrow.Author.Tests.{lt-ltb, le-ltb}
 use Rattle.numbers.specs.Pick.{pick}
@@ -20,9 +20,8 @@ use Rattle.image.proofs.Image.{length-filled, filled-out}
 use Rattle.state.specs.declared.State.{State}
 use Rattle.state.specs.declared.Span.{Span}
 use Rattle.state.specs.Table.{blockAt}
-use Rattle.rules.specs.Turn.{span}
 use Rattle.unused.specs.Unused.{bytesOfBlock, made, freed, behind, cutOff, blocksUpTo, keptBytes, filled}
-use Rattle.unused.specs.Within.{Within, AllWithin}
+use Rattle.unused.specs.Within.{Within, AllWithin, Outside}
 
 pub filled-none : (arena pattern : ℕ) (image : List ℕ) → filled arena pattern image [] ≡ image
 unfolding filled
@@ -55,6 +54,10 @@ pub made-none : (before : ℕ) (r : State) → r .count ≤ before → made befo
 made-none before r h = ap (λ (b : Bool). pick b (bytesOfBlock (blockAt r before) ∷ []) []) (le-ltb before (r .count) h)
 
 -- ---- blocks one by one
+pub blocks-none : (r : State) → blocksUpTo r 0 ≡ []
+unfolding blocksUpTo
+blocks-none r = refl
+
 blocks-more : (r : State) (n : ℕ) → blocksUpTo r (n + 1) ≡ blocksUpTo r n ++ (bytesOfBlock (blockAt r n) ∷ [])
 unfolding blocksUpTo
 blocks-more r n = ap (blocksUpTo r) (add-one n)
@@ -98,14 +101,14 @@ behind-none x (Shown y) h = absurd (miss (0 ∷ 1 ∷ 2 ∷ 3 ∷ 5 ∷ 6 ∷ []
 behind-none x Reset h = refl
 behind-none x (Refused r) h = refl
 
-pub cut-none : (was a : Answer) → OneOf (0 ∷ 1 ∷ 3 ∷ 4 ∷ 5 ∷ 6 ∷ []) (tagOf the-type a) → OneOf (0 ∷ 1 ∷ 2 ∷ 4 ∷ 5 ∷ 6 ∷ []) (tagOf the-type a) → cutOff was a ≡ []
-cut-none was (Created size g pools) h i = refl
-cut-none was (Granted y) h i = refl
-cut-none was (Released y) h i = absurd (miss (0 ∷ 1 ∷ 3 ∷ 4 ∷ 5 ∷ 6 ∷ []) 2 tt h)
-cut-none was (Shrunk y) h i = absurd (miss (0 ∷ 1 ∷ 2 ∷ 4 ∷ 5 ∷ 6 ∷ []) 3 tt i)
-cut-none was (Shown y) h i = refl
-cut-none was Reset h i = refl
-cut-none was (Refused r) h i = refl
+pub cut-none : (was a : Answer) → OneOf (0 ∷ 1 ∷ 2 ∷ 4 ∷ 5 ∷ 6 ∷ []) (tagOf the-type a) → cutOff was a ≡ []
+cut-none was (Created size g pools) h = refl
+cut-none was (Granted y) h = refl
+cut-none was (Released y) h = refl
+cut-none was (Shrunk y) h = absurd (miss (0 ∷ 1 ∷ 2 ∷ 4 ∷ 5 ∷ 6 ∷ []) 3 tt h)
+cut-none was (Shown y) h = refl
+cut-none was Reset h = refl
+cut-none was (Refused r) h = refl
 
 pub kept-none : (r : State) (a : Answer) → OneOf (0 ∷ 1 ∷ 2 ∷ 3 ∷ 4 ∷ 6 ∷ []) (tagOf the-type a) → keptBytes r a ≡ []
 kept-none r (Created size g pools) h = refl
@@ -117,10 +120,6 @@ kept-none r Reset h = absurd (miss (0 ∷ 1 ∷ 2 ∷ 3 ∷ 4 ∷ 6 ∷ []) 5 tt
 kept-none r (Refused why) h = refl
 
 -- ---- the bytes outside all of the spans stay
-abbrev pub Outside : ℕ → List Span → Type 0
-Outside k [] = Unit {0}
-Outside k (x ∷ xs) = ((k < x .address) ⊎ (x .address + x .size ≤ k)) × Outside k xs
-
 pub filled-stays : (arena pattern length k : ℕ) (image : List ℕ) (xs : List Span) → AllWithin arena length xs → arena ≤ k → Outside k xs
     → getD (filled arena pattern image xs) (k - arena) 0 ≡ getD image (k - arena) 0
 unfolding filled

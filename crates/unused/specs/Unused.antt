@@ -1,6 +1,5 @@
 -- Document 01, Filling: a call that an image of the arena is lent to, and the bytes that it fills. Assumes nothing.
 use Prim.Native.Nat.{ℕ, zero, suc, _+_, _-_}
-use mathlib.Core.Bool.{Bool, true, false}
 use mathlib.Core.List.{List, [], _∷_, _++_}
 use lib.Dec.{eqb, ltb}
 use lib.ListN.{length}
@@ -19,13 +18,13 @@ use Rattle.rules.specs.Span.{queryTurn}
 use Rattle.rules.specs.Machine.{Call, create, alloc, release, shrink, query, softReset, hardReset, step}
 
 -- ---- the call
--- an image whose length isn't the arena's is refusal 1, straight after 5
+-- an image whose length, its room, isn't the arena's is refusal 1, straight after 5
 abbrev pub lent : State → List ℕ → List ℕ → ℕ → Turn → Turn
-lent s u t bytes x =
-    pick (badShape s (length u) (length t)) (refuse BadShape s u t) (pick (eqb bytes (s .length)) x (refuse InvalidArgument s u t))
+lent s u t room x =
+    pick (badShape s (length u) (length t)) (refuse BadShape s u t) (pick (eqb room (s .length)) x (refuse InvalidArgument s u t))
 
 abbrev pub lentStep : State → List ℕ → List ℕ → ℕ → Call → Turn
-lentStep s u t bytes c = lent s u t bytes (step s u t c)
+lentStep s u t room c = lent s u t room (step s u t c)
 
 -- ---- the bytes that it fills
 abbrev pub bytesOfBlock : Block → Span
@@ -55,12 +54,12 @@ behind x (Shrunk y) = []
 behind x Reset = []
 behind x (Refused r) = []
 
--- the bytes that a shrink frees, where the span was as a query shows it
+-- the bytes that a shrink cuts off, where the span was as a query shows it
 abbrev pub cutOff : Answer → Answer → List Span
 cutOff was (Shrunk x) = behind x was
 cutOff was (Created size g pools) = []
 cutOff was (Granted x) = []
-cutOff was (Released x) = x ∷ []
+cutOff was (Released x) = []
 cutOff was (Shown x) = []
 cutOff was Reset = []
 cutOff was (Refused r) = []
@@ -79,10 +78,11 @@ keptBytes r (Shrunk x) = []
 keptBytes r (Shown x) = []
 keptBytes r (Refused why) = []
 
+-- a shrink to 0 is a release
 abbrev pub unused : State → List ℕ → List ℕ → Call → Turn → List Span
 unused s u t (alloc size) x = made (s .count) (x .state)
 unused s u t (release a) x = freed (x .answer)
-unused s u t (shrink a size) x = cutOff (queryTurn s u t a .answer) (x .answer)
+unused s u t (shrink a size) x = freed (x .answer) ++ cutOff (queryTurn s u t a .answer) (x .answer)
 unused s u t softReset x = keptBytes (x .state) (x .answer)
 unused s u t hardReset x = keptBytes (x .state) (x .answer)
 unused s u t (create a) x = []

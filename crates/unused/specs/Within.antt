@@ -1,6 +1,7 @@
--- Spans that lie in a range of addresses below 2^48: what a fill asks. Assumes nothing.
-use Prim.Native.Nat.{ℕ, _+_, _≤_, _^_}
+-- Spans that lie in a range of addresses below 2^48, which is what a fill asks; and an address in none of them. Assumes nothing.
+use Prim.Native.Nat.{ℕ, _+_, _≤_, _<_, _^_}
 use mathlib.Core.List.{List, [], _∷_}
+use mathlib.Core.Logic.{_⊎_}
 use Rattle.state.specs.declared.Span.{Span}
 
 pub record Within (arena length : ℕ) (x : Span) : Type 0 where
@@ -11,3 +12,7 @@ pub record Within (arena length : ℕ) (x : Span) : Type 0 where
 abbrev pub AllWithin : ℕ → ℕ → List Span → Type 0
 AllWithin arena length [] = Unit {0}
 AllWithin arena length (x ∷ xs) = Within arena length x × AllWithin arena length xs
+
+abbrev pub Outside : ℕ → List Span → Type 0
+Outside k [] = Unit {0}
+Outside k (x ∷ xs) = ((k < x .address) ⊎ (x .address + x .size ≤ k)) × Outside k xs

@@ -51,15 +51,11 @@ fn fill_behind(image: &mut [u8], arena: u64, was: Answer, x: Span, pattern: u32)
     }
 }
 
-// The bytes that a shrink freed.
+// The bytes that a shrink cut off.
 pub fn fill_cut_off(image: &mut [u8], arena: u64, was: Answer, answer: Answer, pattern: u32)
     requires { ⌜ AllWithin arena (length (now image)) (cutOff was answer) ⌝ }
     ensures { λ _. ⌜ now (image .exit) ≡ filled arena pattern (now (image .entry)) (cutOff was answer) ⌝ }
 {
-    if let Answer::Released(x) = answer {
-        fill_span(image, arena, x.address, x.size, pattern);
-        return;
-    }
     if let Answer::Shrunk(x) = answer {
         fill_behind(image, arena, was, x, pattern);
     }

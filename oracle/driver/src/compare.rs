@@ -1,7 +1,9 @@
 //! Plays one trace on both programs and holds the answers side by side.
 
+use crate::generate::{Recipe, filled_recipes, recipes};
 use crate::writer::text;
 use original::allocator::{Allocator, BlockView};
+use original::filled;
 use original::push_back::probe::Probe;
 use original::push_front::probe::Probe as Unpatched;
 use original::trace::{Answer, read_record, run};
@@ -11,12 +13,53 @@ use std::panic::{AssertUnwindSafe, catch_unwind};
 const SHORT: usize = 100;
 const STRIDE: usize = 8;
 
+/// How traces are played: as docs/01-scope.md has it, or in filled mode (oracle/README.md).
+#[derive(Clone, Copy, PartialEq)]
+pub enum Mode {
+    Bare,
+    Filled,
+}
+
+impl Mode {
+    pub fn recipes(self) -> Vec<Recipe> {
+        match self {
+            Mode::Bare => recipes(),
+            Mode::Filled => filled_recipes(),
+        }
+    }
+
+    /// The oracle against the plain program.
+    pub fn compare(self, bytes: &[u8]) -> Outcome {
+        match self {
+            Mode::Bare => compare(bytes),
+            Mode::Filled => compare_filled(bytes),
+        }
+    }
+
+    /// The lines of both, or what was said of a panic.
+    fn lines(self, bytes: &[u8]) -> (String, String) {
+        let length = count_calls(bytes);
+        let bare = |played: Result<Played, String>| played.map_or_else(|panic| panic, |played| played.lines);
+        match self {
+            Mode::Bare => (bare(play_original::<Probe>(bytes, length)), bare(play_plain(bytes, length))),
+            Mode::Filled => (
+                fill_original(bytes).map_or_else(|panic| panic, |filled| filled.lines),
+                fill_plain(bytes).unwrap_or_else(|panic| panic),
+            ),
+        }
+    }
+}
+
 /// What became of a trace.
 #[derive(Default)]
 pub struct Outcome {
     pub calls: usize,
     /// Calls that docs/DIFFERENCES.md lists: the original was not asked, the plain program refuses 3.
     pub outside: usize,
+    /// Filled mode: bytes that the original's soft resets left with something else than the pattern.
+    pub mended: u64,
+    /// Filled mode: whether an arena is longer than the image, so that the original's lines end there.
+    pub ended: bool,
     /// What differs first, if something does.
     pub difference: Option<String>,
     /// The plain program's lines.
@@ -154,8 +197,56 @@ pub fn compare(bytes: &[u8]) -> Outcome {
                 .or_else(|| differing_blocks(&original.digests, &plain.digests))
                 .or_else(|| original.unsound.map(|fault| format!("a block of the original: {fault}"))),
             lines: plain.lines,
+            ..Outcome::default()
         },
     }
+}
+
+fn fill_original(bytes: &[u8]) -> Result<filled::Filled, String> {
+    catch_unwind(|| filled::run::<Probe>(bytes, |_| {})).map_err(|_| "the original panics".to_string())
+}
+
+fn fill_plain(bytes: &[u8]) -> Result<String, String> {
+    catch_unwind(|| plain::filled::run(bytes)).map_err(|_| "the plain program panics".to_string())
+}
+
+/// The oracle against the plain program in filled mode: the answers, the writes and the images. The original's answers
+/// must also be those that it gives without filling.
+fn compare_filled(bytes: &[u8]) -> Outcome {
+    let calls = count_calls(bytes);
+    let (original, plain) = match fill_original(bytes).and_then(|original| Ok((original, fill_plain(bytes)?))) {
+        Ok(played) => played,
+        Err(panic) => return Outcome { calls, difference: Some(panic), ..Outcome::default() },
+    };
+    let (asked, ended) = asked_lines(&original.lines);
+    let count = asked.lines().count();
+    let answers: String = asked.split_inclusive('\n').filter(|line| !line.starts_with(' ')).collect();
+    let bare = run::<Probe>(bytes, |_, _, _| {});
+    Outcome {
+        calls,
+        outside: asked.lines().filter(|line| *line == Answer::Outside.to_string()).count(),
+        mended: original.mended,
+        ended,
+        difference: differing_line(asked, if ended { first_lines(&plain, count) } else { &plain }).or_else(|| {
+            let wanted = if ended { first_lines(&bare, answers.lines().count()) } else { &bare };
+            (answers != wanted).then(|| "equal lines, but filling changes an answer of the original".to_string())
+        }),
+        lines: plain,
+    }
+}
+
+/// The original's lines up to a create that filled mode could not ask for, and whether there was one.
+pub fn asked_lines(original: &str) -> (&str, bool) {
+    match original.strip_suffix("outside\n") {
+        Some(asked) => (asked, true),
+        None => (original, false),
+    }
+}
+
+/// The first so many lines, their line feeds included.
+pub fn first_lines(text: &str, count: usize) -> &str {
+    let length = text.split_inclusive('\n').take(count).map(str::len).sum();
+    &text[..length]
 }
 
 /// The first line that differs. Where the original was not asked, 01 has refusal 3.
@@ -218,7 +309,7 @@ fn split(bytes: &[u8]) -> Vec<Vec<u8>> {
 }
 
 /// Drops records from a differing trace for as long as it still differs: halves first, then one by one.
-pub fn reduce(bytes: &[u8]) -> Vec<u8> {
+pub fn reduce(mode: Mode, bytes: &[u8]) -> Vec<u8> {
     let mut parts = split(bytes);
     let mut piece = parts.len() / 2;
     while piece > 0 {
@@ -226,7 +317,7 @@ pub fn reduce(bytes: &[u8]) -> Vec<u8> {
         while start < parts.len() {
             let mut fewer = parts.clone();
             fewer.drain(start..(start + piece).min(parts.len()));
-            if compare(&fewer.concat()).difference.is_some() {
+            if mode.compare(&fewer.concat()).difference.is_some() {
                 parts = fewer;
             } else {
                 start += piece;
@@ -237,16 +328,18 @@ pub fn reduce(bytes: &[u8]) -> Vec<u8> {
     parts.concat()
 }
 
-/// Each call's text beside both answers, for people.
-pub fn side_by_side(bytes: &[u8]) -> String {
-    let length = count_calls(bytes);
-    let lines = |played: Result<Played, String>| played.map_or_else(|panic| panic, |played| played.lines);
-    let (original, plain) = (lines(play_original::<Probe>(bytes, length)), lines(play_plain(bytes, length)));
-    let (mut left, mut right) = (original.lines(), plain.lines());
+/// Each call's text beside both answers, for people; below it what is written beside them.
+pub fn side_by_side(mode: Mode, bytes: &[u8]) -> String {
+    let (original, plain) = mode.lines(bytes);
+    let (mut left, mut right) = (original.lines().peekable(), plain.lines().peekable());
     let mut page = String::new();
     for part in split(bytes) {
         let call = read_record(&part, 0).map_or_else(|| format!("# damaged bytes {part:?}"), |(call, _)| text(&call));
         page += &row(&call, left.next(), right.next());
+        let beside = |line: &&str| line.starts_with(' ');
+        while left.peek().is_some_and(beside) || right.peek().is_some_and(beside) {
+            page += &row("", left.next_if(beside), right.next_if(beside));
+        }
     }
     page + &row("", left.next(), right.next())
 }

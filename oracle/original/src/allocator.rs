@@ -11,6 +11,8 @@ pub struct Options {
     pub granularity: u32,
     pub multiple_pools: bool,
     pub immediate_release: bool,
+    /// The pattern, where unused memory is filled.
+    pub fill: Option<u32>,
 }
 
 pub struct InForce {
@@ -54,6 +56,8 @@ pub trait Allocator {
     fn shrink(&mut self, address: u64, size: u64) -> Result<Bytes, AsmError>;
     fn query(&self, address: u64) -> Result<Bytes, AsmError>;
     fn reset(&mut self, hard: bool);
+    /// The original takes a span: it is asked for by a query before.
+    fn copy_from_slice(&mut self, address: u64, offset: u64, slice: &[u8]) -> Result<Bytes, AsmError>;
 
     fn live(&self) -> u64;
     fn pools(&self) -> Vec<PoolView>;

@@ -8,6 +8,7 @@
 extern crate alloc;
 
 pub mod allocator;
+pub mod filled;
 pub mod trace;
 
 /// The errors that `jit_allocator.rs` names, and the one that a failing `mmap` gives.

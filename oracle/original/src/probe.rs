@@ -38,11 +38,12 @@ fn bytes(span: Span) -> Bytes {
 impl Allocator for Probe {
     fn new(options: &Options) -> Self {
         Probe(JitAllocator::new(JitAllocatorOptions {
-            use_dual_mapping: false,
+            // The stub has memory for the second mapping alone.
+            use_dual_mapping: options.fill.is_some(),
             use_multiple_pools: options.multiple_pools,
-            fill_unused_memory: false,
+            fill_unused_memory: options.fill.is_some(),
             immediate_release: options.immediate_release,
-            custom_fill_pattern: None,
+            custom_fill_pattern: options.fill,
             block_size: options.block_size,
             granularity: options.granularity,
         }))
@@ -62,7 +63,7 @@ impl Allocator for Probe {
 
     fn release(&mut self, address: u64) -> Result<Bytes, AsmError> {
         let before = self.query(address);
-        // SAFETY: nothing is dereferenced, and the call tests its address itself.
+        // SAFETY: the call tests its address itself, and fills nothing but a span in a block that stands.
         unsafe { self.0.release(address as *const u8)? };
         before
     }
@@ -82,6 +83,13 @@ impl Allocator for Probe {
         let policy = if hard { ResetPolicy::Hard } else { ResetPolicy::Soft };
         // SAFETY: no code runs from these numbers.
         unsafe { self.0.reset(policy) };
+    }
+
+    fn copy_from_slice(&mut self, address: u64, offset: u64, slice: &[u8]) -> Result<Bytes, AsmError> {
+        let mut span = self.0.query(address as *const u8)?;
+        // SAFETY: the span was just answered, and the call tests offset and length itself.
+        unsafe { self.0.copy_from_slice(&mut span, offset as usize, slice)? };
+        Ok(bytes(span))
     }
 
     fn live(&self) -> u64 {

@@ -5,6 +5,8 @@
 //! marks is its sentence. States that no trace reaches (refusal 6, a bad shape) have no place here: `states`
 //! has the record as it is stored, with every number that 01 names, and plays calls on any such record.
 
+pub mod filled;
+pub mod filling;
 pub mod states;
 pub mod trace;
 

@@ -1,4 +1,5 @@
 //! `plain [FILE]`: reads a trace from FILE or standard input, writes its lines.
+//! `plain --filled [FILE]`: the same in filled mode, oracle/README.md.
 //! `plain --states [FILE]`: the same of cases, which oracle/states.py makes.
 
 use std::io::{Read, Write};
@@ -9,7 +10,7 @@ fn fail(message: &str) -> ! {
     exit(2);
 }
 
-fn read(file: Option<&String>) -> std::io::Result<Vec<u8>> {
+fn read(file: Option<&str>) -> std::io::Result<Vec<u8>> {
     match file {
         Some(path) => std::fs::read(path),
         None => {
@@ -20,21 +21,22 @@ fn read(file: Option<&String>) -> std::io::Result<Vec<u8>> {
 }
 
 fn main() {
-    let mut arguments: Vec<String> = std::env::args().skip(1).collect();
-    let states = arguments.first().is_some_and(|argument| argument == "--states");
-    if states {
-        arguments.remove(0);
+    let arguments: Vec<String> = std::env::args().skip(1).collect();
+    let words: Vec<&str> = arguments.iter().map(String::as_str).collect();
+    let (play, rest): (fn(&[u8]) -> String, &[&str]) = match words.as_slice() {
+        ["--states", rest @ ..] => (plain::states::cases::run, rest),
+        ["--filled", rest @ ..] => (plain::filled::run, rest),
+        rest => (|bytes| plain::trace::run(bytes, |_| {}), rest),
+    };
+    if rest.len() > 1 || rest.iter().any(|argument| argument.starts_with('-')) {
+        fail("usage: plain [--filled | --states] [FILE]");
     }
-    if arguments.len() > 1 || arguments.iter().any(|argument| argument.starts_with('-')) {
-        fail("usage: plain [--states] [FILE]");
-    }
-    let file = arguments.first();
+    let file = rest.first().copied();
     let bytes = match read(file) {
         Ok(bytes) => bytes,
-        Err(error) => fail(&format!("cannot read {}: {error}", file.map_or("standard input", String::as_str))),
+        Err(error) => fail(&format!("cannot read {}: {error}", file.unwrap_or("standard input"))),
     };
-    let lines = if states { plain::states::cases::run(&bytes) } else { plain::trace::run(&bytes, |_| {}) };
-    if std::io::stdout().write_all(lines.as_bytes()).is_err() {
+    if std::io::stdout().write_all(play(&bytes).as_bytes()).is_err() {
         fail("cannot write the lines to standard output");
     }
 }

@@ -1,25 +1,18 @@
-use Prim.Native.Nat.{ℕ, _+_, _-_, _*_, _^_, _≤_, _<_}
-use mathlib.Core.Bool.{Bool, true, false}
-use mathlib.Core.List.{List}
-use mathlib.Core.Path.{_≡_, refl, sym, ap, ap₂, subst, _∙_}
+use Prim.Native.Nat.{ℕ, _-_, _*_, _^_, _≤_, _<_}
+use mathlib.Core.Path.{_≡_, sym, ap, ap₂, subst, _∙_}
 use native.Mathlib.Omega.{arith}
 use lib.ListN.{length}
 use Rattle.numbers.specs.Units.{unitsOf}
-use Rattle.block.specs.declared.Block.{Block}
 use Rattle.sizes.specs.Pools.{poolOf}
 use Rattle.sizes.specs.Sizes.{idealSize}
-use Rattle.state.specs.declared.State.{State}
-use Rattle.state.specs.declared.Hit.{Hit}
-use Rattle.state.specs.declared.Hit.the-variants.{At, Nowhere}
 use Rattle.state.specs.declared.Searched.{Searched}
 use Rattle.state.specs.Table.{blockAt, poolAt}
 use Rattle.state.specs.Find.{newestSize}
 use Rattle.state.proofs.Lengths.{blocks-64}
-use Rattle.rules.specs.Turn.{Turn}
 use Rattle.rules.specs.Alloc.{searchPool, markTurn, newTurn, searchedTurn}
 use Rattle.facts.proofs.Facts.{count-64}
 use Rattle.facts.proofs.Search.{Fits, Left, Place, search-left}
-use Rattle.facts.specs.Ready.{Markable, Makes}
+use Rattle.facts.specs.Ready.{Makes}
 use Rattle.facts.proofs.Pool.{units-kept, g-good, pool-in, unit-some, bytes-in, whole, some-units, looked-into, hit-ready, newest-asked, new-ready}
 use borrow.Author.Needs.{needs}
 use Rattle.alloc.proofs.alloc_rounded.Statement.{statement}

@@ -1,9 +1,6 @@
-use mathlib.Core.Path.{_≡_, sym, ap, _∙_}
-use denote.Ref.{now}
+use mathlib.Core.Path.{ap, _∙_}
 use Rattle.rules.specs.Turn.{Turn, turn}
-use Rattle.rules.specs.Create.{createTurn}
 use Rattle.rules.specs.Machine.{orBefore}
-use Rattle.calls.specs.Calls.{askedBy}
 use Rattle.calls.proofs.Calls.{refused-keeps, granted-goes}
 use borrow.Author.Needs.{needs}
 use Rattle.calls.proofs.call_create.Statement.{statement}

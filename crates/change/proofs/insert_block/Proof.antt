@@ -1,13 +1,7 @@
 use Rattle.state.proofs.Lengths.{order-64}
-use Rattle.block.specs.declared.Block.{Block}
-use Rattle.sizes.specs.declared.Pool.{Pool}
-use Prim.Native.Nat.{ℕ, _+_, _≤_, _<_}
-use mathlib.Core.Path.{_≡_, refl, sym, ap, ap₂, _∙_}
-use mathlib.Core.List.{List}
 use native.Mathlib.Omega.{arith}
 use lib.Dec.{ltb}
 use Rattle.state.specs.Table.{blockAt, ageAt}
-use Rattle.state.specs.Change.{listFrom, movedUp, placeOf}
 use Rattle.change.proofs.Shift.{or-else-le}
 use borrow.Author.Needs.{needs}
 use Rattle.change.proofs.insert_block.Statement.{statement}

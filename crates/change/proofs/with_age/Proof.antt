@@ -1,10 +1,9 @@
-use Rattle.state.specs.Change.{listFrom, movedUp}
+use Rattle.state.specs.Change.{movedUp}
 use Rattle.state.proofs.Lists.{list-is}
 use Rattle.change.proofs.Shift.{moved-below, moved-here, moved-above}
-use Prim.Native.Nat.{ℕ, _+_, _-_, _≤_, _<_}
+use Prim.Native.Nat.{ℕ, _-_, _≤_, _<_}
 use mathlib.Core.Path.{_≡_, refl, sym, ap, _∙_}
 use native.Mathlib.Omega.{arith}
-use borrow.Author.Needs.{needs}
 use lib.ListN.{length, getD, set, length-set}
 use lib.Seq.{getD-set-same, getD-set-other}
 use Rattle.numbers.proofs.Split.{by-eq, by-le}

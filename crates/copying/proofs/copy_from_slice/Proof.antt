@@ -1,14 +1,9 @@
-use Prim.Native.Nat.{ℕ, _+_, _-_, _≤_}
-use mathlib.Core.Bool.{Bool, true, false, not}
-use mathlib.Core.List.{List}
-use mathlib.Core.Path.{_≡_, refl, sym, ap, subst, _∙_}
-use native.Mathlib.Omega.{arith}
+use mathlib.Core.Path.{sym, ap, subst, _∙_}
 use denote.Ref.{now}
 use lib.ListN.{length}
 use Rattle.state.specs.declared.Answer.{Answer}
-use Rattle.state.specs.declared.Answer.the-variants.{Shown, Refused}
 use Rattle.copying.specs.Copying.{fits, written}
-use Rattle.copying.proofs.Copying.{ShownIn, looked-in, not-shown}
+use Rattle.copying.proofs.Copying.{IfShown, Lies, looked-lies, not-shown}
 use borrow.Author.Needs.{needs}
 use Rattle.copying.proofs.copy_from_slice.Statement.{statement}
 use Rattle.copying.proofs.copy_from_slice.Tie as tie
@@ -20,9 +15,11 @@ enum-known-shown : tie.Need-enum-known-shown
 enum-known-shown c = search needs
 
 write-requires : tie.Need-write-requires
-write-requires c κs = let a = c .before .before .before .before .before .before .before .before .before .args in
-    subst (ShownIn (a .s .arena) (length (now (a .image)))) (sym (c .before .before .before .before .look-up .ensures) ∙ c .before .before .shown .given .1)
-    (looked-in (a .s) (now (a .used)) (now (a .stop)) (length (now (a .image))) (a .address))
+write-requires c κs =
+    let a = c .before .before .before .before .before .before .before .before .before .args in
+    let shown = sym (c .before .before .before .before .look-up .ensures) ∙ c .before .before .shown .given .1 in
+    subst (IfShown (Lies (a .s .arena) (length (now (a .image))) (a .address))) shown
+    (looked-lies (a .s) (now (a .used)) (now (a .stop)) (length (now (a .image))) (a .address)) .0
 
 same-length : tie.Need-same-length
 same-length c = search needs

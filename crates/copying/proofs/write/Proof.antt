@@ -1,12 +1,7 @@
-use Prim.Native.Nat.{ℕ, _+_, _-_, _≤_}
-use mathlib.Core.Bool.{Bool, true, false, not}
-use mathlib.Core.List.{List}
-use mathlib.Core.Path.{_≡_, refl, sym, ap, subst, _∙_}
+use mathlib.Core.Path.{refl}
 use native.Mathlib.Omega.{arith}
 use denote.Ref.{now}
 use lib.ListN.{length}
-use Rattle.state.specs.declared.Answer.{Answer}
-use Rattle.state.specs.declared.Answer.the-variants.{Shown, Refused}
 use Rattle.copying.proofs.Copying.{no-room, room}
 use borrow.Author.Needs.{needs}
 use Rattle.copying.proofs.write.Statement.{statement}

@@ -1,14 +1,11 @@
-use Prim.Native.Nat.{ℕ, _<_, _≤_}
-use mathlib.Core.List.{List}
-use mathlib.Core.Path.{_≡_, sym, ap, subst, _∙_}
+use Prim.Native.Nat.{_<_}
+use mathlib.Core.Path.{sym, subst}
 use native.Mathlib.Omega.{arith}
 use denote.Ref.{now}
 use lib.ListN.{length}
-use Rattle.state.specs.declared.State.{State}
-use Rattle.state.proofs.Lengths.{blocks-64, order-64, pool-3}
 use Rattle.rules.specs.Turn.{Turn, turn}
-use Rattle.closed.specs.Sized.{Sized}
-use Rattle.filling.proofs.Lent.{not-lent, does, alloc-lent, alloc-asks, made-few}
+use Rattle.closed.proofs.Sized.{sized-is}
+use Rattle.filling.proofs.Lent.{not-lent, lent-fills, alloc-lent, asks, made-few}
 use Rattle.rules.specs.Machine.{alloc}
 use borrow.Author.Needs.{needs}
 use Rattle.filling.proofs.alloc.Statement.{statement}
@@ -30,8 +27,8 @@ fill-made-requires c κs =
     let a = c .before .before .before .before .before .before .before .before .before .before .before .before .before .args in
     let k = c .before .before .before .before .before .alloc in
     let x = turn (k .result .answer) (k .result .state) (k .last .1 .0) (k .last .1 .1 .0) in
-    let z : Sized (a .s) = record { blocks = blocks-64 (a .s) _ (c .before .before .before .before .before .before .before .before .before .before .before .before .before .good .0); order = order-64 (a .s) _ (c .before .before .before .before .before .before .before .before .before .before .before .before .before .good .0); pools = pool-3 (a .s) _ (c .before .before .before .before .before .before .before .before .before .before .before .before .before .good .0) } in
-    (subst (λ (y : Turn). a .s .count < y .state .count → a .s .count < 64) (sym (k .ensures)) (made-few (a .s) (now (a .used)) (now (a .stop)) z (a .size)), alloc-asks (a .s) (now (a .used)) (now (a .stop)) z (a .size) x (k .ensures) (length (now (a .image))) (omega arith))
+    let z = sized-is (a .s) _ (c .before .before .before .before .before .before .before .before .before .before .before .before .before .good .0) in
+    (subst (λ (y : Turn). a .s .count < y .state .count → a .s .count < 64) (sym (k .ensures)) (made-few (a .s) (now (a .used)) (now (a .stop)) z (a .size)), asks (a .s) (now (a .used)) (now (a .stop)) z (alloc (a .size)) x (k .ensures) (length (now (a .image))) (omega arith))
 
 same-length : tie.Need-same-length
 same-length c = search needs
@@ -47,7 +44,7 @@ returns-2 c =
     let a = c .before .before .before .before .before .before .before .before .before .before .before .before .before .before .before .before .args in
     let k = c .before .before .before .before .before .before .before .before .alloc in
     let x = turn (k .result .answer) (k .result .state) (k .last .1 .0) (k .last .1 .1 .0) in
-    does (a .s) (now (a .used)) (now (a .stop)) (a .pattern) (now (a .image)) (alloc (a .size)) x (c .before .before .fill-made .last .0) (k .ensures)
+    lent-fills (a .s) (now (a .used)) (now (a .stop)) (a .pattern) (now (a .image)) (alloc (a .size)) x (c .before .before .fill-made .last .0) (k .ensures)
     (alloc-lent (a .s) (now (a .used)) (now (a .stop)) (length (now (a .image))) (a .size) (omega arith)) (c .before .before .fill-made .ensures)
 
 pub alloc-spec : {M : Type 1} → statement M

@@ -1,17 +1,10 @@
-use Prim.Native.Nat.{ℕ, _<_, _≤_}
-use mathlib.Core.List.{List}
-use mathlib.Core.Path.{_≡_, sym, ap, subst, _∙_}
+use mathlib.Core.Bool.{true}
 use native.Mathlib.Omega.{arith}
 use denote.Ref.{now}
 use lib.ListN.{length}
-use Rattle.state.specs.declared.State.{State}
-use Rattle.state.proofs.Lengths.{blocks-64, order-64, pool-3}
-use Rattle.rules.specs.Turn.{Turn, turn}
-use Rattle.closed.specs.Sized.{Sized}
-use mathlib.Core.Bool.{true, false}
-use Rattle.state.specs.declared.Answer.the-variants.{Reset}
-use Rattle.filling.proofs.Lent.{not-lent, does, reset-lent, reset-asks, kept-few}
+use Rattle.rules.specs.Turn.{turn}
 use Rattle.rules.specs.Machine.{hardReset}
+use Rattle.filling.proofs.Lent.{not-lent, lent-fills, reset-lent, hard-fills-none}
 use borrow.Author.Needs.{needs}
 use Rattle.filling.proofs.hard_reset.Statement.{statement}
 use Rattle.filling.proofs.hard_reset.Tie as tie
@@ -27,40 +20,20 @@ returns c =
 hard-reset-requires : tie.Need-hard-reset-requires
 hard-reset-requires c κs = search needs
 
-fill-kept-requires : tie.Need-fill-kept-requires
-fill-kept-requires c κs =
-    let a = c .before .before .before .before .before .before .before .before .before .before .before .before .before .args in
-    let k = c .before .before .before .before .before .hard-reset in
-    let x = turn (k .result .answer) (k .result .state) (k .last .1 .0) (k .last .1 .1 .0) in
-    let z : Sized (a .s) = record { blocks = blocks-64 (a .s) _ (c .before .before .before .before .before .before .before .before .before .before .before .before .before .good .0); order = order-64 (a .s) _ (c .before .before .before .before .before .before .before .before .before .before .before .before .before .good .0); pools = pool-3 (a .s) _ (c .before .before .before .before .before .before .before .before .before .before .before .before .before .good .0) } in
-    (subst (λ (y : Turn). y .answer ≡ Reset → y .state .count ≤ 64) (sym (k .ensures)) (kept-few (a .s) (now (a .used)) (now (a .stop)) z true), reset-asks (a .s) (now (a .used)) (now (a .stop)) z true x (k .ensures) (length (now (a .image))) (omega arith))
-
 same-length : tie.Need-same-length
 same-length c = search needs
 
 same-length-2 : tie.Need-same-length-2
 same-length-2 c = search needs
 
-same-length-3 : tie.Need-same-length-3
-same-length-3 c = search needs
-
 returns-2 : tie.Need-returns-2
 returns-2 c =
-    let a = c .before .before .before .before .before .before .before .before .before .before .before .before .before .before .before .before .args in
-    let k = c .before .before .before .before .before .before .before .before .hard-reset in
+    let a = c .before .before .before .before .before .before .before .before .before .before .before .before .args in
+    let k = c .before .before .before .before .hard-reset in
     let x = turn (k .result .answer) (k .result .state) (k .last .1 .0) (k .last .1 .1 .0) in
-    does (a .s) (now (a .used)) (now (a .stop)) (a .pattern) (now (a .image)) hardReset x (c .before .before .fill-kept .last .0) (k .ensures)
-    (reset-lent (a .s) (now (a .used)) (now (a .stop)) (length (now (a .image))) true (omega arith)) (c .before .before .fill-kept .ensures)
+    lent-fills (a .s) (now (a .used)) (now (a .stop)) (a .pattern) (now (a .image)) hardReset x (now (a .image)) (k .ensures)
+    (reset-lent (a .s) (now (a .used)) (now (a .stop)) (length (now (a .image))) true (omega arith))
+    (hard-fills-none (a .s) (now (a .used)) (now (a .stop)) (a .pattern) (now (a .image)) x (k .ensures))
 
 pub hard-reset-spec : {M : Type 1} → statement M
-hard-reset-spec =
-    tie.close
-    (tie.spec
-    not-lent-requires
-    returns
-    hard-reset-requires
-    fill-kept-requires
-    same-length
-    same-length-2
-    same-length-3
-    returns-2)
+hard-reset-spec = tie.close (tie.spec not-lent-requires returns hard-reset-requires same-length same-length-2 returns-2)

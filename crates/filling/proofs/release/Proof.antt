@@ -1,14 +1,9 @@
-use Prim.Native.Nat.{ℕ, _<_, _≤_}
-use mathlib.Core.List.{List}
-use mathlib.Core.Path.{_≡_, sym, ap, subst, _∙_}
 use native.Mathlib.Omega.{arith}
 use denote.Ref.{now}
 use lib.ListN.{length}
-use Rattle.state.specs.declared.State.{State}
-use Rattle.state.proofs.Lengths.{blocks-64, order-64, pool-3}
-use Rattle.rules.specs.Turn.{Turn, turn}
-use Rattle.closed.specs.Sized.{Sized}
-use Rattle.filling.proofs.Lent.{not-lent, does, release-lent, release-asks}
+use Rattle.rules.specs.Turn.{turn}
+use Rattle.closed.proofs.Sized.{sized-is}
+use Rattle.filling.proofs.Lent.{not-lent, lent-fills, release-lent, asks}
 use Rattle.rules.specs.Machine.{release}
 use borrow.Author.Needs.{needs}
 use Rattle.filling.proofs.release.Statement.{statement}
@@ -30,7 +25,8 @@ fill-freed-requires c κs =
     let a = c .before .before .before .before .before .before .before .before .before .before .before .before .before .args in
     let k = c .before .before .before .before .before .release in
     let x = turn (k .result .answer) (k .result .state) (k .last .1 .0) (k .last .1 .1 .0) in
-    release-asks (a .s) (now (a .used)) (now (a .stop)) (a .address) x (k .ensures) (length (now (a .image))) (omega arith)
+    let z = sized-is (a .s) _ (c .before .before .before .before .before .before .before .before .before .before .before .before .before .good .0) in
+    asks (a .s) (now (a .used)) (now (a .stop)) z (release (a .address)) x (k .ensures) (length (now (a .image))) (omega arith)
 
 same-length : tie.Need-same-length
 same-length c = search needs
@@ -46,7 +42,7 @@ returns-2 c =
     let a = c .before .before .before .before .before .before .before .before .before .before .before .before .before .before .before .before .args in
     let k = c .before .before .before .before .before .before .before .before .release in
     let x = turn (k .result .answer) (k .result .state) (k .last .1 .0) (k .last .1 .1 .0) in
-    does (a .s) (now (a .used)) (now (a .stop)) (a .pattern) (now (a .image)) (release (a .address)) x (c .before .before .fill-freed .last .0) (k .ensures)
+    lent-fills (a .s) (now (a .used)) (now (a .stop)) (a .pattern) (now (a .image)) (release (a .address)) x (c .before .before .fill-freed .last .0) (k .ensures)
     (release-lent (a .s) (now (a .used)) (now (a .stop)) (length (now (a .image))) (a .address) (omega arith)) (c .before .before .fill-freed .ensures)
 
 pub release-spec : {M : Type 1} → statement M

@@ -1,16 +1,12 @@
-use Prim.Native.Nat.{ℕ, _<_, _≤_}
-use mathlib.Core.List.{List}
-use mathlib.Core.Path.{_≡_, sym, ap, subst, _∙_}
+use mathlib.Core.Path.{ap, _∙_}
 use native.Mathlib.Omega.{arith}
 use denote.Ref.{now}
 use lib.ListN.{length}
-use Rattle.state.specs.declared.State.{State}
-use Rattle.state.proofs.Lengths.{blocks-64, order-64, pool-3}
-use Rattle.rules.specs.Turn.{Turn, turn}
-use Rattle.closed.specs.Sized.{Sized}
-use Rattle.state.specs.declared.Answer.{Answer}
-use Rattle.unused.specs.Unused.{cutOff, filled}
-use Rattle.filling.proofs.Lent.{not-lent, does, shrink-lent, shrink-asks}
+use Rattle.rules.specs.Turn.{turn}
+use Rattle.unused.specs.Unused.{freed}
+use Rattle.unused.proofs.Unused.{length-filled-all}
+use Rattle.closed.proofs.Sized.{sized-is}
+use Rattle.filling.proofs.Lent.{not-lent, lent-fills, shrink-lent, shrink-asks, both-fills}
 use Rattle.rules.specs.Machine.{shrink}
 use borrow.Author.Needs.{needs}
 use Rattle.filling.proofs.shrink.Statement.{statement}
@@ -30,12 +26,26 @@ query-requires c κs = search needs
 shrink-requires : tie.Need-shrink-requires
 shrink-requires c κs = search needs
 
-fill-cut-off-requires : tie.Need-fill-cut-off-requires
-fill-cut-off-requires c κs =
+fill-freed-requires : tie.Need-fill-freed-requires
+fill-freed-requires c κs =
     let a = c .before .before .before .before .before .before .before .before .before .before .before .before .before .before .before .before .args in
+    let z = sized-is (a .s) _ (c .before .before .before .before .before .before .before .before .before .before .before .before .before .before .before .before .good .0) in
+    let q = c .before .before .before .before .before .before .before .before .query in
     let k = c .before .before .before .before .before .shrink in
     let x = turn (k .result .answer) (k .result .state) (k .last .1 .0) (k .last .1 .1 .0) in
-    shrink-asks (a .s) (now (a .used)) (now (a .stop)) (a .address) (a .size) (c .before .before .before .before .before .before .before .before .query .result) (c .before .before .before .before .before .before .before .before .query .ensures) x (k .ensures) (length (now (a .image))) (omega arith)
+    shrink-asks (a .s) (now (a .used)) (now (a .stop)) z (a .address) (a .size) (q .result) (q .ensures) x (k .ensures) (length (now (a .image))) (omega arith) .0
+
+fill-cut-off-requires : tie.Need-fill-cut-off-requires
+fill-cut-off-requires c κs =
+    let a = c .before .before .before .before .before .before .before .before .before .before .before .before .before .before .before .before .before .before .before .before .args in
+    let z = sized-is (a .s) _ (c .before .before .before .before .before .before .before .before .before .before .before .before .before .before .before .before .before .before .before .before .good .0) in
+    let q = c .before .before .before .before .before .before .before .before .before .before .before .before .query in
+    let k = c .before .before .before .before .before .before .before .before .before .shrink in
+    let x = turn (k .result .answer) (k .result .state) (k .last .1 .0) (k .last .1 .1 .0) in
+    let f = c .before .before .before .fill-freed in
+    let same = c .before .before .before .before .before .before .before .before .before .before .before .before .before .before .before .if1 .left in
+    let long = ap length (f .ensures) ∙ length-filled-all (a .s .arena) (a .pattern) (now (a .image)) (freed (k .result .answer)) in
+    shrink-asks (a .s) (now (a .used)) (now (a .stop)) z (a .address) (a .size) (q .result) (q .ensures) x (k .ensures) (length (f .last .0)) (omega (arith, long, same)) .1
 
 same-length : tie.Need-same-length
 same-length c = search needs
@@ -48,11 +58,16 @@ same-length-3 c = search needs
 
 returns-2 : tie.Need-returns-2
 returns-2 c =
-    let a = c .before .before .before .before .before .before .before .before .before .before .before .before .before .before .before .before .before .before .before .args in
-    let k = c .before .before .before .before .before .before .before .before .shrink in
+    let a = c .before .before .before .before .before .before .before .before .before .before .before .before .before .before .before .before .before .before .before .before .before .before .before .args in
+    let same = c .before .before .before .before .before .before .before .before .before .before .before .before .before .before .before .before .before .before .if1 .left in
+    let q = c .before .before .before .before .before .before .before .before .before .before .before .before .before .before .before .query in
+    let k = c .before .before .before .before .before .before .before .before .before .before .before .before .shrink in
     let x = turn (k .result .answer) (k .result .state) (k .last .1 .0) (k .last .1 .1 .0) in
-    does (a .s) (now (a .used)) (now (a .stop)) (a .pattern) (now (a .image)) (shrink (a .address) (a .size)) x (c .before .before .fill-cut-off .last .0) (k .ensures)
-    (shrink-lent (a .s) (now (a .used)) (now (a .stop)) (length (now (a .image))) (a .address) (a .size) (omega (arith, c .before .before .before .before .before .before .before .before .before .before .before .before .before .before .if1 .left))) (c .before .before .fill-cut-off .ensures ∙ ap (λ (w : Answer). filled (a .s .arena) (a .pattern) (now (a .image)) (cutOff w (k .result .answer))) (c .before .before .before .before .before .before .before .before .before .before .before .query .ensures))
+    let f = c .before .before .before .before .before .before .fill-freed in
+    let g = c .before .before .fill-cut-off in
+    lent-fills (a .s) (now (a .used)) (now (a .stop)) (a .pattern) (now (a .image)) (shrink (a .address) (a .size)) x (g .last .0) (k .ensures)
+    (shrink-lent (a .s) (now (a .used)) (now (a .stop)) (length (now (a .image))) (a .address) (a .size) (omega (arith, same)))
+    (both-fills (a .s) (now (a .used)) (now (a .stop)) (a .pattern) (now (a .image)) (a .address) (a .size) (q .result) (q .ensures) x (f .last .0) (g .last .0) (f .ensures) (g .ensures))
 
 pub shrink-spec : {M : Type 1} → statement M
 shrink-spec =
@@ -62,6 +77,7 @@ shrink-spec =
     returns
     query-requires
     shrink-requires
+    fill-freed-requires
     fill-cut-off-requires
     same-length
     same-length-2

@@ -1,16 +1,13 @@
-use Prim.Native.Nat.{ℕ, _<_, _≤_}
-use mathlib.Core.List.{List}
-use mathlib.Core.Path.{_≡_, sym, ap, subst, _∙_}
+use Prim.Native.Nat.{_≤_}
+use mathlib.Core.Path.{_≡_, sym, subst}
 use native.Mathlib.Omega.{arith}
 use denote.Ref.{now}
 use lib.ListN.{length}
-use Rattle.state.specs.declared.State.{State}
-use Rattle.state.proofs.Lengths.{blocks-64, order-64, pool-3}
 use Rattle.rules.specs.Turn.{Turn, turn}
-use Rattle.closed.specs.Sized.{Sized}
-use mathlib.Core.Bool.{true, false}
+use Rattle.closed.proofs.Sized.{sized-is}
+use mathlib.Core.Bool.{false}
 use Rattle.state.specs.declared.Answer.the-variants.{Reset}
-use Rattle.filling.proofs.Lent.{not-lent, does, reset-lent, reset-asks, kept-few}
+use Rattle.filling.proofs.Lent.{not-lent, lent-fills, reset-lent, asks, kept-few}
 use Rattle.rules.specs.Machine.{softReset}
 use borrow.Author.Needs.{needs}
 use Rattle.filling.proofs.soft_reset.Statement.{statement}
@@ -32,8 +29,8 @@ fill-kept-requires c κs =
     let a = c .before .before .before .before .before .before .before .before .before .before .before .before .before .args in
     let k = c .before .before .before .before .before .soft-reset in
     let x = turn (k .result .answer) (k .result .state) (k .last .1 .0) (k .last .1 .1 .0) in
-    let z : Sized (a .s) = record { blocks = blocks-64 (a .s) _ (c .before .before .before .before .before .before .before .before .before .before .before .before .before .good .0); order = order-64 (a .s) _ (c .before .before .before .before .before .before .before .before .before .before .before .before .before .good .0); pools = pool-3 (a .s) _ (c .before .before .before .before .before .before .before .before .before .before .before .before .before .good .0) } in
-    (subst (λ (y : Turn). y .answer ≡ Reset → y .state .count ≤ 64) (sym (k .ensures)) (kept-few (a .s) (now (a .used)) (now (a .stop)) z false), reset-asks (a .s) (now (a .used)) (now (a .stop)) z false x (k .ensures) (length (now (a .image))) (omega arith))
+    let z = sized-is (a .s) _ (c .before .before .before .before .before .before .before .before .before .before .before .before .before .good .0) in
+    (subst (λ (y : Turn). y .answer ≡ Reset → y .state .count ≤ 64) (sym (k .ensures)) (kept-few (a .s) (now (a .used)) (now (a .stop)) z false), asks (a .s) (now (a .used)) (now (a .stop)) z softReset x (k .ensures) (length (now (a .image))) (omega arith))
 
 same-length : tie.Need-same-length
 same-length c = search needs
@@ -49,7 +46,7 @@ returns-2 c =
     let a = c .before .before .before .before .before .before .before .before .before .before .before .before .before .before .before .before .args in
     let k = c .before .before .before .before .before .before .before .before .soft-reset in
     let x = turn (k .result .answer) (k .result .state) (k .last .1 .0) (k .last .1 .1 .0) in
-    does (a .s) (now (a .used)) (now (a .stop)) (a .pattern) (now (a .image)) softReset x (c .before .before .fill-kept .last .0) (k .ensures)
+    lent-fills (a .s) (now (a .used)) (now (a .stop)) (a .pattern) (now (a .image)) softReset x (c .before .before .fill-kept .last .0) (k .ensures)
     (reset-lent (a .s) (now (a .used)) (now (a .stop)) (length (now (a .image))) false (omega arith)) (c .before .before .fill-kept .ensures)
 
 pub soft-reset-spec : {M : Type 1} → statement M

@@ -1,11 +1,7 @@
-use Prim.Native.Nat.{ℕ, _+_, _*_, _^_, _≤_, _<_}
-use mathlib.Core.Path.{_≡_, ap, sym, subst, _∙_}
-use native.Mathlib.Omega.{arith}
-use lib.ListN.{length}
+use Prim.Native.Nat.{_+_}
+use mathlib.Core.Path.{ap, _∙_}
 use Rattle.block.specs.declared.Block.{Block}
 use Rattle.block.specs.Marking.{Painted, markAllocated}
-use Rattle.block.specs.Record.{Placed}
-use Rattle.state.specs.Table.{blockAt}
 use borrow.Author.Needs.{needs}
 use Rattle.grant.proofs.mark_span.Statement.{statement}
 use Rattle.grant.proofs.mark_span.Tie as tie

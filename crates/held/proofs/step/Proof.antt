@@ -1,7 +1,7 @@
 -- `held::step` meets its contract: a walk of its MIR, by hand. A `BitVectorRangeIterator` is made in a local of the slice and the numbers passed,
 -- and goes to `held_next`, of which the proof knows only that it meets its contract. A `&[u32]` is Copy, so what it owns is had twice: once for
 -- slice at exit, and once inside the struct. Assumes nothing.
-use mathlib.Core.Path.{_≡_, refl}
+use mathlib.Core.Path.{refl}
 use Prim.Native.Nat.{ℕ, _<_, _^_}
 use mathlib.Core.List.{List, [], _∷_}
 use lib.ListN.{length}

@@ -1,10 +1,10 @@
 use Prim.Native.Nat.{ℕ, _+_, _-_, _≤_}
 use mathlib.Core.List.{List}
-use mathlib.Core.Path.{_≡_, refl, sym, ap, _∙_}
+use mathlib.Core.Path.{_≡_, sym, ap, _∙_}
 use native.Mathlib.Omega.{arith}
 use borrow.Author.Needs.{needs}
 use lib.ListN.{length, set}
-use Rattle.image.specs.Image.{patternByte, filledAt}
+use Rattle.image.specs.Image.{filledAt}
 use Rattle.image.proofs.Image.{filled-none, length-filled, one-more}
 use Rattle.image.proofs.fill_pattern.Statement.{statement}
 use Rattle.image.proofs.fill_pattern.Tie as tie

@@ -1,9 +1,8 @@
-use Prim.Native.Nat.{ℕ, _+_, _*_, _/_, _%_, _-_, _≤_, _<_}
-use mathlib.Core.Path.{_≡_, refl, sym, ap, _∙_}
+use Prim.Native.Nat.{_+_, _*_, _-_, _<_}
 use native.Mathlib.Omega.{arith}
 use borrow.Author.Needs.{needs}
 use mir.Val.{boolByte}
-use lib.ListN.{length, getD}
+use lib.ListN.{length}
 use lib.Count.{trailing-le}
 use Rattle.bits.proofs.Digits.{tz-lt}
 use Rattle.bits.specs.Walk.{Seen}

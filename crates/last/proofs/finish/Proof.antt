@@ -1,11 +1,8 @@
-use Prim.Native.Nat.{ℕ}
-use mathlib.Core.List.{List, []}
-use mathlib.Core.Path.{_≡_, refl, sym, ap, subst, _∙_}
+use mathlib.Core.Path.{refl}
 use borrow.Author.Tests.{lt-ltb, le-ltb, eq-eqb, ne-eqb}
 use lib.ListN.{length}
 use denote.Ref.{now}
 use native.Mathlib.Omega.{arith}
-use Rattle.put.specs.Put.{Puts}
 use Rattle.last.proofs.Last.{end-most, bad-most}
 use borrow.Author.Needs.{needs}
 use Rattle.last.proofs.finish.Statement.{statement}

@@ -1,9 +1,8 @@
-use Prim.Native.Nat.{ℕ, _+_, _-_, _≤_, _<_}
-use mathlib.Core.Path.{_≡_, refl, sym, ap, _∙_}
+use Prim.Native.Nat.{ℕ, _+_, _-_, _≤_}
+use mathlib.Core.Path.{ap, _∙_}
 use native.Mathlib.Omega.{arith}
 use borrow.Author.Needs.{needs}
 use lib.ListN.{getD}
-use Rattle.state.specs.Table.{zeroBlock}
 use Rattle.state.specs.Change.{past, fallen}
 use Rattle.state.proofs.Lists.{Built, built-none, built-more, built-list}
 use Rattle.change.proofs.Shift.{past-above, fallen-below, past-le}

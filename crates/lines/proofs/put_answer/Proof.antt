@@ -1,6 +1,6 @@
 use Prim.Native.Nat.{ℕ}
 use mathlib.Core.List.{List, [], _∷_}
-use mathlib.Core.Path.{_≡_, refl, sym, ap, subst, _∙_}
+use mathlib.Core.Path.{_≡_, sym, subst}
 use Rattle.state.specs.declared.Answer.{Answer}
 use Rattle.text.specs.Line.{line}
 use Rattle.lines.specs.Lines.{refused, answerLine}

@@ -1,7 +1,5 @@
 use borrow.Author.Tests.{lt-leb, le-leb, eq-eqb, ne-eqb}
-use borrow.Author.Tests.{lt-leb, le-leb, ne-eqb, not-true, not-false}
-use mathlib.Core.Path.{_≡_, refl, sym}
-use Prim.Native.Nat.{_-_}
+use borrow.Author.Tests.{lt-leb, le-leb, ne-eqb}
 use borrow.Author.Tests.{lt-leb, le-leb, ne-eqb}
 use Rattle.block.specs.Search.{looks}
 use borrow.Author.Needs.{needs}

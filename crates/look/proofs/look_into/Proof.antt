@@ -1,11 +1,9 @@
-use Prim.Native.Nat.{ℕ, _+_, _*_, _-_, _^_, _≤_, _<_}
-use mathlib.Core.Path.{_≡_, refl, sym, ap, _∙_, subst}
-use mathlib.Core.Bool.{Bool, true, false}
+use mathlib.Core.Path.{_≡_, sym, ap, _∙_, subst}
+use mathlib.Core.Bool.{true, false}
 use native.Mathlib.Omega.{arith}
 use borrow.Author.Tests.{not-true, not-false}
 use lib.ListN.{length}
 use Rattle.runs.specs.Window.{Lowest, Tightened, Sought}
-use Rattle.runs.specs.Seek.{seek}
 use Rattle.runs.proofs.Seek.{seek-only}
 use Rattle.slots.specs.Slots.{slotOf}
 use Rattle.slots.proofs.Laws.{length-slot}

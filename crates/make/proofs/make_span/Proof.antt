@@ -1,10 +1,9 @@
 use Prim.Native.Nat.{ℕ}
 use mathlib.Core.List.{List}
-use mathlib.Core.Path.{_≡_, refl, sym, ap, ap₂, subst, _∙_}
+use mathlib.Core.Path.{sym, ap, ap₂, subst, _∙_}
 use lib.ListN.{length}
 use Rattle.state.specs.declared.State.{State}
 use Rattle.state.specs.Change.{inserted}
-use Rattle.rules.specs.Turn.{Turn, clearSlot}
 use Rattle.rules.specs.Alloc.{markTurn}
 use Rattle.facts.specs.Ready.{Markable}
 use Rattle.facts.proofs.Made.{length-cleared, made}

@@ -1,4 +1,4 @@
-use Prim.Native.Nat.{ℕ, _+_, _*_, _^_, _≤_, _<_}
+use Prim.Native.Nat.{ℕ}
 use mathlib.Core.Bool.{Bool, true, false}
 use mathlib.Core.List.{List}
 use mathlib.Core.Path.{_≡_, refl, sym, ap, ap₂, subst, _∙_}
@@ -22,7 +22,7 @@ use Rattle.state.specs.Table.{poolAt}
 use Rattle.state.specs.Find.{lowestSlot, lowestPlace}
 use Rattle.state.specs.Change.{inserted}
 use Rattle.state.proofs.Lengths.{blocks-64, order-64, pool-3}
-use Rattle.rules.specs.Turn.{Turn, turn, refuse, clearSlot}
+use Rattle.rules.specs.Turn.{turn, refuse, clearSlot}
 use Rattle.rules.specs.Alloc.{markTurn, makeTurn, placeTurn, newTurn}
 use Rattle.facts.proofs.Facts.{arranged, slotted}
 use Rattle.facts.specs.Ready.{Makeable}

@@ -1,6 +1,6 @@
-use mathlib.Core.Path.{_≡_, ap, ap₂, _∙_}
+use mathlib.Core.Path.{ap, ap₂, _∙_}
 use Rattle.block.specs.declared.Block.{Block}
-use Rattle.block.specs.Marking.{Painted, painted, shrunk}
+use Rattle.block.specs.Marking.{painted, shrunk}
 use Prim.Native.Nat.{ℕ, _-_}
 use mathlib.Core.List.{List}
 use Rattle.slots.specs.Slots.{fillSlot}

@@ -1,10 +1,8 @@
 use Rattle.state.specs.Table.{blockAt, ageAt}
-use Rattle.numbers.specs.Align.{alignUp}
-use Prim.Native.Nat.{ℕ, _+_, _-_, _≤_, _<_}
-use mathlib.Core.Path.{_≡_, refl, sym, ap, subst, _∙_}
+use Prim.Native.Nat.{ℕ, _+_, _-_, _≤_}
+use mathlib.Core.Path.{_≡_, sym, subst}
 use native.Mathlib.Omega.{arith}
 use borrow.Author.Needs.{needs}
-use lib.Dec.{lit<}
 use Rattle.table.specs.Ordered.{Arranged}
 use Rattle.table.proofs.Place.{Above, above, Passed, passed-none, passed-more, place-gap, place-last, place-none}
 use Rattle.place.proofs.lowest_place.Statement.{statement}

@@ -1,12 +1,10 @@
-use mathlib.Core.List.{List, [], _∷_, _++_}
-use mathlib.Core.Path.{_≡_, refl, sym, ap, subst, _∙_}
-use native.Mathlib.Nat.{div-lt-self, mod-lt}
+use mathlib.Core.List.{List}
+use mathlib.Core.Path.{subst}
+use native.Mathlib.Nat.{div-lt-self}
 use native.Mathlib.Omega.{arith}
 use borrow.Author.Needs.{needs}
-use lib.ListN.{length}
-use Rattle.put.specs.Decimal.{digit, decimal}
 use Rattle.put.specs.Put.{Puts}
-use Rattle.put.proofs.Put.{size, join}
+use Rattle.put.proofs.Put.{join}
 use Rattle.put.proofs.Digits.{few, more, tenth-most}
 use Prim.Native.Nat.{ℕ, _<_}
 use borrow.Fn.Kinds.{In}

@@ -1,7 +1,4 @@
-use mathlib.Core.List.{List, [], _∷_}
-use mathlib.Core.Path.{_≡_, refl, sym, ap, subst, _∙_}
 use native.Mathlib.Omega.{arith}
-use Rattle.put.specs.Put.{Puts}
 use Rattle.put.proofs.Put.{join}
 use Rattle.put.proofs.Digits.{most}
 use borrow.Author.Needs.{needs}

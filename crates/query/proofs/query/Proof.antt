@@ -2,7 +2,7 @@ use Rattle.state.specs.declared.Answer.the-variants.{Shown}
 use Rattle.state.specs.declared.Held.the-variants.{NoSpan, NoStop, Units}
 use Rattle.state.specs.declared.Span.{Span}
 use Rattle.rules.specs.Turn.{Turn, unitOf}
-use Prim.Native.Nat.{ℕ, _-_, _≤_, _<_}
+use Prim.Native.Nat.{_-_, _≤_, _<_}
 use mathlib.Core.Bool.{true, false}
 use mathlib.Core.Path.{_≡_, sym, ap, _∙_}
 use native.Mathlib.Omega.{arith}

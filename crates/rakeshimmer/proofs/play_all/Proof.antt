@@ -1,8 +1,6 @@
 use Prim.Native.Nat.{_≤_}
-use mathlib.Core.Path.{_≡_, refl, sym}
-use native.Mathlib.Omega.{arith}
+use mathlib.Core.Path.{_≡_, sym}
 use borrow.Author.Needs.{needs}
-use borrow.Author.Tests.{ltb-true}
 use lib.ListN.{length}
 use lib.Seq.{length-take-le}
 use Rattle.rakeshimmer.proofs.play_all.Statement.{statement}

@@ -1,14 +1,12 @@
-use Prim.Native.Nat.{ℕ, _+_, _*_, _-_, _^_, _≤_, _<_, min}
-use mathlib.Core.Path.{_≡_, refl, sym, ap, _∙_, subst}
+use Prim.Native.Nat.{ℕ, _+_, _*_, _^_, _<_}
+use mathlib.Core.Path.{refl, ap, _∙_}
 use mathlib.Core.Bool.{false}
 use native.Mathlib.Omega.{arith}
 use lib.Count.{trailingZeros, trailing-le}
-use lib.ListN.{length, getD}
-use Rattle.bits.specs.Bits.{digit, bit}
-use Rattle.bits.specs.Walk.{flipped, Seen}
+use Rattle.bits.specs.Bits.{digit}
+use Rattle.bits.specs.Walk.{flipped}
 use Rattle.bits.proofs.Digits.{tz-lt, digit-of-zero}
-use Rattle.bits.proofs.Find.{seen-none, lowest, Lowest, from-lt, flipped-lt}
-use Rattle.runs.specs.Walk.{RunFrom}
+use Rattle.bits.proofs.Find.{seen-none, lowest, from-lt, flipped-lt}
 use Rattle.runs.proofs.Laws.{used-is, restOf, run-clear, ends-here}
 use borrow.Author.Needs.{needs}
 use Rattle.ranges.proofs.next_range.Statement.{statement}

@@ -1,9 +1,9 @@
-use Prim.Native.Nat.{ℕ, _+_, _*_, _-_, _≤_, _<_, min}
-use mathlib.Core.Path.{_≡_, refl, sym, ap, _∙_, subst}
-use mathlib.Core.Bool.{Bool, true, false}
+use Prim.Native.Nat.{ℕ, _+_, _-_, _≤_}
+use mathlib.Core.Path.{refl}
+use mathlib.Core.Bool.{false}
 use native.Mathlib.Omega.{arith}
 use borrow.Author.Needs.{needs}
-use lib.ListN.{length, getD}
+use lib.ListN.{length}
 use Rattle.bits.specs.Walk.{Seen}
 use Rattle.bits.proofs.Find.{seen-word, seen-none}
 use Rattle.ranges.proofs.skip.Statement.{statement}

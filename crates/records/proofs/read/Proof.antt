@@ -1,5 +1,4 @@
-use Prim.Native.Nat.{ℕ, _+_}
-use mathlib.Core.Path.{_≡_, refl, sym, ap, subst, _∙_}
+use mathlib.Core.Path.{_≡_, sym, subst, _∙_}
 use lib.ListN.{length}
 use denote.Ref.{now}
 use Rattle.records.specs.declared.Payload.{Payload}

@@ -1,19 +1,16 @@
 use native.Mathlib.Nat.{sub-zero}
-use Rattle.block.specs.declared.Looked.the-variants.{Found, Missed}
-use Rattle.state.specs.declared.Hit.the-variants.{At, Nowhere}
 use Prim.Native.Nat.{ℕ, suc, _+_, _-_, _≤_, _<_}
 use mathlib.Core.Path.{_≡_, refl, sym, ap, subst, _∙_}
 use native.Mathlib.Numerals.{add-one}
 use native.Mathlib.Omega.{arith}
 use borrow.Author.Needs.{needs}
-use lib.ListN.{length, getD, set}
+use lib.ListN.{length}
 use lib.Seq.{getD-set-other}
 use Rattle.block.specs.declared.Block.{Block}
 use Rattle.block.specs.Record.{Placed}
-use Rattle.state.specs.declared.State.{State}
 use Rattle.state.specs.Table.{zeroBlock, blockAt}
 use Rattle.rules.specs.Turn.{putBlock}
-use Rattle.rules.specs.Alloc.{searched, searchFrom, searchPool}
+use Rattle.rules.specs.Alloc.{searchFrom, searchPool}
 use Rattle.rules.proofs.Search.{search-found, search-missed}
 use Rattle.search.proofs.search_pool.Statement.{statement}
 use Rattle.search.proofs.search_pool.Tie as tie

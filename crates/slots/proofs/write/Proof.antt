@@ -1,7 +1,7 @@
 -- `slots::write` meets its contract: a walk of its MIR, by hand. All that it knows of `slot_mut` and `put` is that each meets its contract.
 -- Both are called at the borrow's own lifetime and share. `words` is given up for good (`gave-slice`): what `put` says of the part's last list is, by `slot_mut`'s `GoesBack`, what is said of `words`'s. Assumes nothing.
 use mathlib.Core.Path.{_≡_, refl, sym, _∙_, ap, subst}
-use Prim.Native.Nat.{ℕ, _<_, _≤_, _^_, _+_, _*_, _-_}
+use Prim.Native.Nat.{ℕ, _<_, _≤_, _^_, _+_, _*_}
 use native.Mathlib.Omega.{arith}
 use mathlib.Core.Bool.{Bool}
 use mathlib.Core.List.{[], _∷_, List}
@@ -20,7 +20,7 @@ use prog.Wp.{Heap, Calls, Loops, WpFn, Tables}
 use ghost.Atoms.{Atoms, sem}
 use contract.Monad.{Fun, fact}
 use contract.Running.{givenOf, tables, tablesOf}
-use types.Kit.{Given, ‵, raw, some, later, _⊛_, _$_, _∵_, !, qed, by, move, keep, use1, use2, use3, split, join, pick, rewrite, fsplit, fjoin, feqL, feqI, suffices, frame, await, done}
+use types.Kit.{Given, ‵, raw, some, later, _⊛_, _$_, _∵_, !, qed, by, move, keep, use1, use2, use3, split, join, pick, rewrite, fsplit, fjoin, feqI, suffices, frame, await, done}
 use types.Run.{look, init, forget, stop, hop, fld, from, load, addr, of-opd, unit-lit, and-then, no-more, assigns, land, returns, enter, alloc1, alloc0, params1, pass1, pass0, free1, free0}
 use types.Part.{agg, whole, sub, look-in}
 use sound.WpLaws.{FmC, fmOf, WpFn-mono}

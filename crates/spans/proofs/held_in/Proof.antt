@@ -1,14 +1,11 @@
 use Prim.Native.Nat.{ℕ}
-use mathlib.Core.Path.{_≡_, sym, ap, ap₂, subst, _∙_}
+use mathlib.Core.Path.{_≡_, ap, ap₂, _∙_}
 use native.Mathlib.Omega.{arith}
-use lib.ListN.{length}
 use Rattle.block.specs.declared.Block.{Block}
-use Rattle.block.specs.Record.{Placed}
 use Rattle.sizes.specs.declared.Pool.{Pool}
 use Rattle.state.specs.Table.{blockAt}
 use Rattle.rules.specs.Turn.{unitOf}
 use Rattle.rules.specs.Span.{heldOf}
-use Rattle.spans.specs.Within.{Within}
 use borrow.Author.Needs.{needs}
 use Rattle.spans.proofs.held_in.Statement.{statement}
 use Rattle.spans.proofs.held_in.Tie as tie

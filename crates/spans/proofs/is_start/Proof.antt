@@ -1,10 +1,10 @@
-use Prim.Native.Nat.{ℕ, _-_}
+use Prim.Native.Nat.{_-_}
 use lib.Dec.{eqb}
 use Rattle.bits.specs.Bits.{bit}
 use Rattle.spans.proofs.Bits.{read-yes, read-no, read-is, zero-no, zero-yes}
 use borrow.Author.Tests.{eq-eqb, ne-eqb, not-true, not-false}
-use mathlib.Core.Path.{_≡_, refl, sym, ap, _∙_}
-use mathlib.Core.Bool.{Bool, true, false}
+use mathlib.Core.Path.{_≡_}
+use mathlib.Core.Bool.{true, false}
 use borrow.Author.Needs.{needs}
 use Rattle.spans.proofs.is_start.Statement.{statement}
 use Rattle.spans.proofs.is_start.Tie as tie

@@ -1,7 +1,3 @@
-use mathlib.Core.List.{List, [], _∷_}
-use mathlib.Core.Path.{_≡_, refl, sym, ap, subst, _∙_}
-use native.Mathlib.Omega.{arith}
-use Rattle.put.specs.Put.{Puts}
 use Rattle.put.proofs.Put.{join}
 use borrow.Author.Needs.{needs}
 use Rattle.text.proofs.put_line0.Statement.{statement}

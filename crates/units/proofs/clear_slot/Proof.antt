@@ -1,6 +1,4 @@
-use mathlib.Core.List.{List}
-use mathlib.Core.Path.{_≡_, ap, _∙_}
-use Prim.Native.Nat.{ℕ}
+use mathlib.Core.Path.{ap, _∙_}
 use Rattle.slots.specs.Slots.{putSlot}
 use Rattle.slots.proofs.Laws.{slot-cleared}
 use borrow.Author.Needs.{needs}

@@ -1,6 +1,5 @@
-use Prim.Native.Nat.{ℕ, _+_, _-_, _≤_, _<_}
-use mathlib.Core.List.{List, [], _∷_}
-use mathlib.Core.Path.{_≡_, refl, sym, ap, _∙_, subst}
+use Prim.Native.Nat.{ℕ, _+_, _-_}
+use mathlib.Core.Path.{_≡_, sym, ap, _∙_, subst}
 use native.Mathlib.Omega.{arith}
 use denote.Ref.{now}
 use lib.ListN.{length}
@@ -25,13 +24,21 @@ enum-known-was : tie.Need-enum-known-was
 enum-known-was c = search needs
 
 add-fill-span : tie.Need-add-fill-span
-add-fill-span c = let w = tail (c .before .before .before .before .before .before .before .before .before .args .arena) (length (now (c .before .before .before .before .before .before .before .before .before .args .image))) (c .before .before .before .before .before .before .before .before .before .args .x) (c .before .before .before .before .before .before .was .given .0 .0) (c .before .before .before .before .before .before .before .before .before .args .was) (c .before .before .before .before .before .before .was .given .1) (c .before .before .before .before .before .before .before .before .before .pre) in omega (arith, w .top)
+add-fill-span c =
+    let r = c .before .before .before .before .before .before .before .before .before in
+    let y = c .before .before .before .before .before .before .was .given in
+    let w = tail (r .args .arena) (length (now (r .args .image))) (r .args .x) (y .0 .0) (r .args .was) (y .1) (r .pre) in
+    omega (arith, w .top)
 
 sub-fill-span : tie.Need-sub-fill-span
 sub-fill-span c = search needs
 
 fill-span-requires : tie.Need-fill-span-requires
-fill-span-requires c κs = let w = tail (c .before .before .before .before .before .before .before .before .before .before .before .args .arena) (length (now (c .before .before .before .before .before .before .before .before .before .before .before .args .image))) (c .before .before .before .before .before .before .before .before .before .before .before .args .x) (c .before .before .before .before .before .before .before .before .was .given .0 .0) (c .before .before .before .before .before .before .before .before .before .before .before .args .was) (c .before .before .before .before .before .before .before .before .was .given .1) (c .before .before .before .before .before .before .before .before .before .before .before .pre) in (w .low, w .high)
+fill-span-requires c κs =
+    let r = c .before .before .before .before .before .before .before .before .before .before .before in
+    let y = c .before .before .before .before .before .before .before .before .was .given in
+    let w = tail (r .args .arena) (length (now (r .args .image))) (r .args .x) (y .0 .0) (r .args .was) (y .1) (r .pre) in
+    (w .low, w .high)
 
 same-length : tie.Need-same-length
 same-length c = search needs

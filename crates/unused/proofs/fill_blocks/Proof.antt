@@ -1,15 +1,13 @@
-use Prim.Native.Nat.{ℕ, _+_, _-_, _≤_, _<_}
-use mathlib.Core.List.{List, [], _∷_}
-use mathlib.Core.Path.{_≡_, refl, sym, ap, _∙_, subst}
+use Prim.Native.Nat.{ℕ, _-_, _≤_}
+use mathlib.Core.List.{List}
+use mathlib.Core.Path.{_≡_, ap, _∙_}
 use native.Mathlib.Omega.{arith}
 use denote.Ref.{now}
 use lib.ListN.{length}
-use borrow.Author.Needs.{needs}
 use Rattle.image.specs.Image.{filledAt}
 use Rattle.block.specs.declared.Block.{Block}
 use Rattle.state.specs.Table.{blockAt}
-use Rattle.unused.specs.Unused.{bytesOfBlock, blocksUpTo, filled}
-use Rattle.unused.specs.Within.{AllWithin}
+use Rattle.unused.specs.Unused.{blocksUpTo, filled}
 use Rattle.unused.proofs.Unused.{length-filled-all, blocks-within, filled-more, filled-start}
 use Rattle.unused.proofs.fill_blocks.Statement.{statement}
 use Rattle.unused.proofs.fill_blocks.Tie as tie

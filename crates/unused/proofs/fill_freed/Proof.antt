@@ -1,13 +1,10 @@
-use Prim.Native.Nat.{ℕ, _+_, _-_, _≤_, _<_}
-use mathlib.Core.List.{List, [], _∷_}
-use mathlib.Core.Path.{_≡_, refl, sym, ap, _∙_, subst}
-use native.Mathlib.Omega.{arith}
+use mathlib.Core.Path.{sym, ap, _∙_, subst}
 use denote.Ref.{now}
 use lib.ListN.{length}
 use Rattle.state.specs.declared.Answer.{Answer}
-use Rattle.unused.specs.Unused.{made, freed, behind, cutOff, blocksUpTo, filled}
+use Rattle.unused.specs.Unused.{freed, filled}
 use Rattle.unused.specs.Within.{AllWithin}
-use Rattle.unused.proofs.Unused.{filled-none, filled-one, freed-none, behind-none, cut-none}
+use Rattle.unused.proofs.Unused.{filled-none, filled-one, freed-none}
 use borrow.Author.Needs.{needs}
 use Rattle.unused.proofs.fill_freed.Statement.{statement}
 use Rattle.unused.proofs.fill_freed.Tie as tie

@@ -1,14 +1,12 @@
-use Prim.Native.Nat.{ℕ, _+_, _-_, _≤_, _<_}
-use mathlib.Core.List.{List, [], _∷_}
-use mathlib.Core.Path.{_≡_, refl, sym, ap, _∙_, subst}
+use Prim.Native.Nat.{_+_, _-_, _≤_}
+use mathlib.Core.Path.{sym, ap, _∙_, subst}
 use native.Mathlib.Omega.{arith}
 use denote.Ref.{now}
 use lib.ListN.{length}
 use Rattle.image.specs.Image.{filledAt}
 use Rattle.block.specs.declared.Block.{Block}
-use Rattle.state.specs.declared.Span.{Span}
 use Rattle.state.specs.Table.{blockAt}
-use Rattle.unused.specs.Unused.{made, bytesOfBlock, filled}
+use Rattle.unused.specs.Unused.{bytesOfBlock, filled}
 use Rattle.unused.specs.Within.{AllWithin}
 use Rattle.unused.proofs.Unused.{filled-none, filled-one, made-one, made-none}
 use borrow.Author.Needs.{needs}

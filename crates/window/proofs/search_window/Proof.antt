@@ -1,15 +1,10 @@
-use Prim.Native.Nat.{ℕ, _+_, _*_, _-_, _≤_, _<_}
-use mathlib.Core.Path.{_≡_, refl, sym, ap, _∙_, subst}
-use mathlib.Core.Logic.{⊎-elim}
-use native.Mathlib.Nat.{eq-zero-or-pos}
+use Prim.Native.Nat.{_-_}
+use mathlib.Core.Path.{subst}
 use native.Mathlib.Omega.{arith}
 use borrow.Author.Needs.{needs}
-use lib.ListN.{length}
-use Rattle.bits.specs.Bits.{bit}
 use Rattle.bits.specs.Walk.{Seen}
 use Rattle.runs.specs.Walk.{Stepped, RunFrom}
-use Rattle.runs.specs.declared.Search.{Search}
-use Rattle.runs.proofs.Laws.{Known, known-start, known-run, known-end, known-full, known-fit, known-sought, fit-here}
+use Rattle.runs.proofs.Laws.{Known, known-start, known-run, known-fit, known-sought, fit-here}
 use Rattle.window.proofs.search_window.Statement.{statement}
 use Rattle.window.proofs.search_window.Tie as tie
 

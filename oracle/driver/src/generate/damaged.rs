@@ -1,15 +1,19 @@
 //! Traces with bad records: cut, of an unknown kind, of a wrong length, changed, random.
 
-use super::numbers::ample;
+use super::numbers::{ample, small_setting};
 use super::random::random as random_trace;
 use crate::random::Random;
 use crate::writer::{Writer, raw_record, record};
-use original::trace::Call;
+use original::trace::{Call, Create};
+
+pub fn damage_base() -> Vec<u8> {
+    every_kind(&ample(64, 1))
+}
 
 /// A short good trace with a record of every kind.
-pub fn damage_base() -> Vec<u8> {
+fn every_kind(create: &Create) -> Vec<u8> {
     let calls = [
-        Call::Create(ample(64, 1)),
+        Call::Create(*create),
         Call::Alloc(100),
         Call::Alloc(64),
         Call::Query(4_194_304),
@@ -24,6 +28,11 @@ pub fn damage_base() -> Vec<u8> {
 /// The short good trace, cut at every offset.
 pub fn cut(offset: u64) -> Vec<u8> {
     damage_base()[..offset as usize].to_vec()
+}
+
+/// The same in an arena that has an image.
+pub fn cut_small(offset: u64) -> Vec<u8> {
+    every_kind(&small_setting(0, 2))[..offset as usize].to_vec()
 }
 
 pub const KINDS: [u16; 12] = [0, 8, 9, 10, 255, 256, 257, 258, 513, 32_768, 65_534, 65_535];

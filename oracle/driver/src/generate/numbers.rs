@@ -27,6 +27,11 @@ pub fn setting(number: u64) -> Create {
     create
 }
 
+/// The same settings with an arena of so many places, for filled mode.
+pub fn small_setting(number: u64, places: u64) -> Create {
+    Create { arena_length: places * PLACE, ..setting(number) }
+}
+
 /// Sizes at the limits of the size rule, for every granularity.
 pub fn limit_sizes(g: u64) -> Vec<u64> {
     let mut sizes = vec![0, 1, g - 1, g, g + 1, 2 * g, 4 * g, 31 * g, 32 * g, 33 * g, 64 * g, 65 * g];

@@ -39,9 +39,21 @@ fn random_create(random: &mut Random) -> Create {
     Create { block_size, granularity, flags, slot_words, arena_base: base * PLACE, arena_length: places * PLACE }
 }
 
-/// A creation that is refused, in one of its numbers.
-fn refused_create(random: &mut Random) -> Create {
+/// Numbers of a creation, at random, whose arena has an image: few places, and base sizes that mostly fit.
+fn small_create(random: &mut Random) -> Create {
     let create = random_create(random);
+    let arena_length = PLACE * random.pick(&[2, 2, 3, 4, 4, 6, 7, 10, 16]);
+    let block_size = match random.weighted(&[60, 30, 10]) {
+        0 => 65_536,
+        1 => random.pick(&[131_072, 262_144, 524_288]),
+        _ => random.pick(&ODD_BLOCK_SIZES),
+    };
+    Create { block_size, arena_length, arena_base: create.arena_base.min(TOP - arena_length), ..create }
+}
+
+/// A creation that is refused, in one of its numbers.
+fn refused_create(random: &mut Random, create: fn(&mut Random) -> Create) -> Create {
+    let create = create(random);
     match random.below(6) {
         0 => Create { slot_words: 0, ..create },
         1 => Create { slot_words: random.range(8193, u64::from(u32::MAX)) as u32, ..create },
@@ -57,6 +69,7 @@ struct Manner {
     units: u64,
     /// alloc, release, shrink, query, soft reset, hard reset, good create, refused create
     weights: [u64; 8],
+    create: fn(&mut Random) -> Create,
 }
 
 fn random_manner(random: &mut Random) -> Manner {
@@ -65,7 +78,16 @@ fn random_manner(random: &mut Random) -> Manner {
     let release = random.pick(&[150, 250, 350]);
     let resets = random.pick(&[0, 3, 10]);
     let creates = random.pick(&[0, 0, 4]);
-    Manner { units, weights: [alloc, release, 150, 100, resets, resets / 2, creates, 6] }
+    let weights = [alloc, release, 150, 100, resets, resets / 2, creates, 6];
+    Manner { units, weights, create: random_create }
+}
+
+/// Small spans, since a write reaches 225 bytes; many resets.
+fn small_manner(random: &mut Random) -> Manner {
+    let units = random.pick(&[1, 2, 4, 4, 40, 300]);
+    let alloc = random.pick(&[350, 450, 600]);
+    let release = random.pick(&[150, 250, 350]);
+    Manner { units, weights: [alloc, release, 150, 60, 60, 20, 20, 6], create: small_create }
 }
 
 fn random_size(random: &mut Random, writer: &Writer, units: u64) -> u64 {
@@ -119,18 +141,13 @@ fn random_call(random: &mut Random, writer: &Writer, manner: &Manner) -> Call {
         3 => Call::Query(random_address(random, writer)),
         4 => Call::SoftReset,
         5 => Call::HardReset,
-        6 => Call::Create(random_create(random)),
-        _ => Call::Create(refused_create(random)),
+        6 => Call::Create((manner.create)(random)),
+        _ => Call::Create(refused_create(random, manner.create)),
     }
 }
 
 /// Calls of every kind. Every other trace is short, every eighth is long.
 pub fn random(number: u64) -> Vec<u8> {
-    let mut random = Random::new(0x7261_6e64 + number);
-    let mut writer = Writer::default();
-    let create = random_create(&mut random);
-    writer.call(Call::Create(create));
-    let mut manner = random_manner(&mut random);
     let calls = if number % 8 == 0 {
         800
     } else if number % 2 == 0 {
@@ -138,9 +155,27 @@ pub fn random(number: u64) -> Vec<u8> {
     } else {
         60
     };
+    random_calls(Random::new(0x7261_6e64 + number), calls, random_create, random_manner)
+}
+
+/// Calls of every kind in arenas that have an image.
+pub fn random_small(number: u64) -> Vec<u8> {
+    let calls = if number % 8 == 0 { 100 } else { 25 };
+    random_calls(Random::new(0x736d_616c + number), calls, small_create, small_manner)
+}
+
+fn random_calls(
+    mut random: Random,
+    calls: usize,
+    create: fn(&mut Random) -> Create,
+    new_manner: fn(&mut Random) -> Manner,
+) -> Vec<u8> {
+    let mut writer = Writer::default();
+    writer.call(Call::Create(create(&mut random)));
+    let mut manner = new_manner(&mut random);
     for index in 0..calls {
         if index % 100 == 99 {
-            manner = random_manner(&mut random);
+            manner = new_manner(&mut random);
         }
         let call = random_call(&mut random, &writer, &manner);
         writer.call(call);
@@ -150,9 +185,14 @@ pub fn random(number: u64) -> Vec<u8> {
 
 /// Many spans, then holes in a pattern, then requests that grow until they need a new block, with shrinks.
 pub fn fragments(number: u64) -> Vec<u8> {
+    fragments_in(&setting(number), number)
+}
+
+/// The same in any arena.
+pub fn fragments_in(create: &Create, number: u64) -> Vec<u8> {
     let mut random = Random::new(0x6672_6167 + number);
     let mut writer = Writer::default();
-    writer.call(Call::Create(setting(number)));
+    writer.call(Call::Create(*create));
     let g = writer.granularity;
     let largest = random.pick(&[1, 3, 8, 33, 70]);
     for _ in 0..random.range(100, 300) {

@@ -1,10 +1,11 @@
 //! A stub for the original's `virtual_memory`: hands out addresses by the arena rule of docs/01-scope.md.
 //!
-//! Addresses are numbers; nothing is mapped and nothing is dereferenced. The stub also keeps each block's
-//! slot and order of making, which the original does not know.
+//! Addresses are numbers; nothing is mapped, and without filling nothing is dereferenced. With filling the original
+//! maps twice: to run stays a number, to write is memory, in an image of the arena. The stub also keeps each block's slot
+//! and order of making, which the original does not know.
 
 use crate::AsmError;
-use core::cell::RefCell;
+use core::cell::{Cell, RefCell};
 
 /// "The lowest multiple of 65,536": also the page granularity that the original is told.
 pub const PAGE_GRANULARITY: u64 = 65_536;
@@ -41,6 +42,9 @@ pub struct Standing {
     pub serial: u64,
 }
 
+/// The bytes of an arena. Words, since the original fills by words; cells, since it writes through pointers.
+pub type Image = Box<[Cell<u32>]>;
+
 #[derive(Default)]
 pub struct Arena {
     pub base: u64,
@@ -50,11 +54,24 @@ pub struct Arena {
     pub slots: u32,
     standing: Vec<Standing>,
     made: u64,
+    /// All zero at first; empty without filling.
+    image: Image,
 }
 
 impl Arena {
     pub fn new(base: u64, length: u64, granularity: u64, slot_words: u64, slots: u32) -> Self {
-        Arena { base, length, granularity, slot_words, slots, standing: Vec::new(), made: 0 }
+        Arena { base, length, granularity, slot_words, slots, standing: Vec::new(), made: 0, image: Image::default() }
+    }
+
+    /// The same arena with memory behind its addresses.
+    pub fn with_image(self) -> Self {
+        let image = vec![Cell::new(0); self.length as usize / size_of::<u32>()].into();
+        Arena { image, ..self }
+    }
+
+    /// The image from an address on.
+    fn image_from(&self, address: u64) -> &[Cell<u32>] {
+        &self.image[(address - self.base) as usize / size_of::<u32>()..]
     }
 
     /// "Refusal 4 exactly if there is no such place, no free slot, or its words exceed W."
@@ -107,6 +124,16 @@ pub fn standing() -> Vec<Standing> {
     ARENA.with(|arena| arena.borrow().standing.clone())
 }
 
+/// Shows the words of the image in force.
+pub fn with_image<T>(see: impl FnOnce(&[Cell<u32>]) -> T) -> T {
+    ARENA.with(|arena| see(&arena.borrow().image))
+}
+
+/// Shows the words of a block.
+pub fn with_block<T>(base: u64, size: u64, see: impl FnOnce(&[Cell<u32>]) -> T) -> T {
+    ARENA.with(|arena| see(&arena.borrow().image_from(base)[..size as usize / size_of::<u32>()]))
+}
+
 pub fn info() -> Info {
     Info { page_size: 4096, page_granularity: PAGE_GRANULARITY as u32 }
 }
@@ -131,19 +158,25 @@ pub fn with_jit_write_access<T>(write: impl FnOnce() -> T) -> T {
     write()
 }
 
-// Dual mapping and filling are off, so what follows is never called.
+// What follows is called with filling alone.
 
-pub fn alloc_dual_mapping(_size: usize, _flags: MemoryFlags) -> Result<DualMapping, AsmError> {
-    unreachable!("dual mapping is off")
+pub fn alloc_dual_mapping(size: usize, _flags: MemoryFlags) -> Result<DualMapping, AsmError> {
+    ARENA.with(|arena| {
+        let mut arena = arena.borrow_mut();
+        let base = arena.take(size as u64).ok_or(AsmError::OutOfMemory)?;
+        Ok(DualMapping { rx: base as *const u8, rw: arena.image_from(base).as_ptr() as *mut u8 })
+    })
 }
 
-pub fn release_dual_mapping(_mapping: &mut DualMapping, _size: usize) -> Result<(), AsmError> {
-    unreachable!("dual mapping is off")
+/// The image keeps its bytes: a block that is made at this place again finds them.
+pub fn release_dual_mapping(mapping: &mut DualMapping, size: usize) -> Result<(), AsmError> {
+    ARENA.with(|arena| arena.borrow_mut().give_back(mapping.rx as u64, size as u64));
+    Ok(())
 }
 
 /// # Safety
 ///
-/// Never called.
+/// None needed: nothing runs from these addresses, and nothing is flushed.
 pub unsafe fn flush_instruction_cache(_address: *const u8, _size: usize) -> Result<(), AsmError> {
-    unreachable!("filling is off and nothing is written")
+    Ok(())
 }
