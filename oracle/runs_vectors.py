@@ -1,6 +1,6 @@
 #!/usr/bin/env python3
-"""Prints the lines that the test programs of `numbers`, `slots`, `runs`, `sizes`, `table` and `change` must write, made
-naively: units by integer arithmetic, maps bit by bit, sizes by the words of document 01, tables by a list of blocks.
+"""Prints the lines that the test programs numbers_run and maps_run must write of `numbers`, `slots`, `runs` and `sizes`, made
+naively: units by integer arithmetic, maps bit by bit, sizes by the words of document 01.
 
   units    `units SIZE UNIT N`, the units of UNIT bytes that hold SIZE bytes, and `bytes N UNIT SIZE`, their bytes
   slots    over 6 words, slots of 2: `mark SLOT AT N W0 .. W5` and `unmark ..`, the words after it; `slot SLOT W0 W1`
@@ -8,15 +8,11 @@ naively: units by integer arithmetic, maps bit by bit, sizes by the words of doc
            in the window from S up to E of pattern P; `runs P S E s-e ..`, the window's free runs, each up to its e
   sizes    `granularity ASKED G` and `base ASKED SIZE`, as in force; `round SIZE G to ROUNDED` or `.. refused N`;
            `pool SIZE OF_THREE OF_ONE`; `ideal NEWEST REQUEST SIZE`, of a new block
-  tables   of four tables each: `count N`; `block AGE BASE SIZE POOL SLOT AREA` and `order ..`, five of each, zeros
-           behind; `pool NUMBER BLOCKS AREA`; `newest POOL SIZE`; `slot at SLOT` or `slot nothing`; `lookup ADDRESS at
-           AGE` or `.. nothing`; `place SIZE at ADDRESS` or `.. nowhere`
 
 The outputs that the programs are held to are made again so, in the repository's root:
 
   { oracle/leaves numbers; oracle/runs_vectors.py units; oracle/runs_vectors.py sizes; } > crates/numbers_run/stdout
   { oracle/leaves bits; oracle/runs_vectors.py slots; oracle/runs_vectors.py windows; } > crates/maps_run/stdout
-  oracle/runs_vectors.py tables > crates/table_run/stdout
 """
 
 import signal
@@ -155,62 +151,12 @@ def sizes():
             print("ideal", newest, request, ideal(newest, request))
 
 
-# A table: where its arena starts, the arena's length, and its blocks by age: (base, size, pool, slot). Of four slots.
-FOUR = [(1376256, 131072, 0, 0), (1114112, 2048, 1, 3), (1638400, 393216, 0, 1), (1245184, 131072, 2, 2)]
-TABLES = [
-    (65536, 1048576, []),
-    (65536, 262144, [(65536, 2048, 0, 1)]),
-    (1048576, 1048576, FOUR),
-    (1048576, 1048576, FOUR[:1] + FOUR[2:]),
-]
-# The first and the last byte of each block of a table, by rising address.
-BYTES = sorted({(base, base + size - 1) for _, _, blocks in TABLES for base, size, _, _ in blocks})
-PLACED = [64, 65536, 65537, 131072, 131073, 196608, 196609, 1048576, 1048577, 2147483648]
-
-
-def or_else(word, found):
-    return ["at", found[0]] if found else [word]
-
-
-def looked_up(blocks, address):
-    return [age for age, (base, size, _, _) in enumerate(blocks) if address in range(base, base + size)]
-
-
-def places(arena, length, blocks, size):
-    """The multiples of 65,536 at which so many bytes lie within the arena and meet no block."""
-    for at in range(arena, arena + length - size + 1, 65536):
-        if all(at + size <= base or base + other <= at for base, other, _, _ in blocks):
-            yield at
-
-
-def tables():
-    for arena, length, blocks in TABLES:
-        print("count", len(blocks))
-        for age in range(5):
-            base, size, pool, slot = blocks[age] if age < len(blocks) else (0, 0, 0, 0)
-            print("block", age, base, size, pool, slot, size // 64)
-        order = sorted(range(len(blocks)), key=lambda age: blocks[age][0])
-        print("order", *(order + [0] * 5)[:5])
-        for pool in range(3):
-            sizes_in = [size for _, size, its_pool, _ in blocks if its_pool == pool]
-            print("pool", pool, len(sizes_in), sum(sizes_in) // 64)
-        for pool in range(3):
-            sizes_in = [size for _, size, its_pool, _ in blocks if its_pool == pool]
-            print("newest", pool, sizes_in[-1] if sizes_in else 65536)
-        print("slot", *or_else("nothing", [k for k in range(4) if k not in [slot for _, _, _, slot in blocks]]))
-        around = [at for first, last in BYTES for at in (first - 1, first, first + 1, last, last + 1)]
-        for address in [0, *around, 1179648, TOP - 1]:
-            print("lookup", address, *or_else("nothing", looked_up(blocks, address)))
-        for size in PLACED:
-            print("place", size, *or_else("nowhere", list(places(arena, length, blocks, size))))
-
-
-KINDS = {"units": units, "slots": slots, "windows": windows, "sizes": sizes, "tables": tables}
+KINDS = {"units": units, "slots": slots, "windows": windows, "sizes": sizes}
 
 
 def main(words):
     if len(words) != 1 or words[0] not in KINDS:
-        print("usage: oracle/runs_vectors.py units|slots|windows|sizes|tables", file=sys.stderr)
+        print("usage: oracle/runs_vectors.py units|slots|windows|sizes", file=sys.stderr)
         return 2
     KINDS[words[0]]()
     return 0

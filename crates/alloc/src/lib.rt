@@ -10,9 +10,9 @@ ghost use lib.Dec.{eqb};
 ghost use Rattle.numbers.specs.Pick.{pick};
 ghost use Rattle.sizes.specs.declared.Rounded.the-variants.{To};
 ghost use Rattle.state.specs.declared.Refusal.the-variants.{InvalidArgument, TooLarge};
-ghost use Rattle.rules.specs.Turn.{turn};
-ghost use Rattle.rules.specs.Alloc.{sizeTurn, allocTurn};
-ghost use Rattle.facts.specs.Ready.{Allocates};
+ghost use Rattle.machine.specs.Turn.{turn};
+ghost use Rattle.machine.specs.Alloc.{sizeTurn, allocTurn};
+ghost use Rattle.shape_facts.specs.Ready.{Allocates};
 
 // The refusal of a size, by document 01's number.
 fn size_refusal(number: u32) -> Refusal
@@ -33,17 +33,17 @@ fn alloc_rounded(s: State, used: &mut [u32], stop: &mut [u32], bytes: u64) -> Ou
     let p = sizes::size_to_pool_id(bytes, s.g, s.pools);
     let pool = s.pool[p];
     let n = numbers::area_size_from_byte_size(bytes, pool.granularity);
-    let found = search::search_pool(s, used, p, n);
+    let found = alloc_search::search_pool(s, used, p, n);
     let hit = found.hit;
     let r = found.state;
     match hit {
         Hit::At(j, i) => {
-            return grant::mark_span(r, used, stop, j, i, n);
+            return alloc_mark::mark_span(r, used, stop, j, i, n);
         }
         Hit::Nowhere => {
             let newest = table::newest_size(r, p);
             let size = sizes::calculate_ideal_block_size(newest, bytes);
-            return make::new_span(r, used, stop, p, n, size);
+            return alloc_new::new_span(r, used, stop, p, n, size);
         }
     }
 }
@@ -52,7 +52,7 @@ fn alloc_rounded(s: State, used: &mut [u32], stop: &mut [u32], bytes: u64) -> Ou
 pub fn alloc(s: State, used: &mut [u32], stop: &mut [u32], size: u64) -> Outcome
     ensures { λ r. ⌜ turn (r .answer) (r .state) (now (used .exit)) (now (stop .exit)) ≡ allocTurn s (now (used .entry)) (now (stop .entry)) size ⌝ }
 {
-    if !whole::shape_ok(s, used.len(), stop.len()) {
+    if !shape::shape_ok(s, used.len(), stop.len()) {
         return state::refused(s, Refusal::BadShape);
     }
     let rounded = sizes::round_size(size, s.g);

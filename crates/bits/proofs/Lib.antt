@@ -1,6 +1,6 @@
 pub mod Digits
 pub mod Words
-pub mod Fill
+pub mod Filled
 pub mod Ops
 pub mod Find
 pub mod Count

@@ -1,4 +1,7 @@
 // Single bits of maps over lent 32-bit words, as `bit_vector_*` of the Rust's util/mod.rs: bit k of a map is bit k % 32 of word k / 32.
+pub mod fill;
+pub mod index;
+
 ghost use mathlib.Core.Path.{_≡_};
 ghost use Prim.Native.Nat.{_*_, _<_};
 ghost use mir.Val.{boolByte};

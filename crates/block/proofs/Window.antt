@@ -12,7 +12,7 @@ use borrow.Author.Tests.{le-leb}
 use Rattle.numbers.specs.Pick.{pick}
 use Rattle.numbers.proofs.Split.{by-le, not-both, same-of-not-lt}
 use Rattle.bits.specs.Bits.{ones, filled}
-use Rattle.bits.proofs.Fill.{filled-has}
+use Rattle.bits.proofs.Filled.{filled-has}
 use Rattle.bits.proofs.Count.{ones-le, ones-filled}
 use Rattle.runs.specs.Window.{FreeAt, NoFit, Lowest, Tightened, Sought}
 use Rattle.runs.specs.declared.Search.{Search}

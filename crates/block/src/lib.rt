@@ -1,4 +1,7 @@
 // One block's record, and what marking does to it. `JitAllocatorBlock` in the Rust.
+pub mod look;
+pub mod mark;
+
 ghost use mathlib.Core.Path.{_≡_};
 ghost use Prim.Native.Nat.{_+_, _-_, _<_, _≤_, min, max};
 ghost use Rattle.block.specs.Record.{SpanIn};

@@ -21,9 +21,9 @@ use Rattle.state.specs.declared.Answer.{Answer}
 use Rattle.state.specs.declared.Answer.the-variants.{Created, Granted, Released, Shrunk, Shown, Reset, Refused}
 use Rattle.state.specs.Shape.{badShape}
 use Rattle.state.specs.Find.{lookup}
-use Rattle.rules.specs.Turn.{Turn, turn, refuse}
-use Rattle.rules.specs.Span.{heldIn, shownTurn, queriedTurn, queryTurn}
-use Rattle.rules.specs.Machine.{orBefore}
+use Rattle.machine.specs.Turn.{Turn, turn, refuse}
+use Rattle.machine.specs.Span.{heldIn, shownTurn, queriedTurn, queryTurn}
+use Rattle.machine.specs.Machine.{orBefore}
 
 -- ---- creation
 pub refused-keeps : (s : State) (x : Turn) (r : Refusal) → x .answer ≡ Refused r → turn (x .answer) s (x .used) (x .stop) ≡ orBefore s x (x .answer)

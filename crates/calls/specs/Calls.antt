@@ -1,6 +1,6 @@
 -- A record's call, as the machine's. Assumes nothing.
-use Rattle.rules.specs.Create.{Asked}
-use Rattle.rules.specs.Machine as machine
+use Rattle.machine.specs.Create.{Asked}
+use Rattle.machine.specs.Machine as machine
 use Rattle.records.specs.declared.Asked as read
 use Rattle.records.specs.declared.Call.{Call}
 use Rattle.records.specs.declared.Call.the-variants.{Create, Alloc, Release, Shrink, Query, SoftReset, HardReset}

@@ -5,8 +5,8 @@ use state::Answer;
 use state::Outcome;
 use state::State;
 ghost use mathlib.Core.Path.{_≡_};
-ghost use Rattle.rules.specs.Turn.{turn};
-ghost use Rattle.rules.specs.Machine.{create, step};
+ghost use Rattle.machine.specs.Turn.{turn};
+ghost use Rattle.machine.specs.Machine.{create, step};
 ghost use Rattle.calls.specs.Calls.{askedBy, callBy};
 
 // A creation. A refused one isn't a state reached: the trace goes on with the state before it.

@@ -12,8 +12,8 @@ use Rattle.state.specs.declared.Answer.the-variants.{Created}
 use Rattle.state.specs.Table.{zeroState}
 use Rattle.state.specs.Shape.{arenaOk}
 use Rattle.state.proofs.Tests.{every-at}
-use Rattle.rules.specs.Turn.{turn, refuse}
-use Rattle.rules.specs.Create.{Asked, slotsOf, grantable, freshState, cleared, createTurn}
+use Rattle.machine.specs.Turn.{turn, refuse}
+use Rattle.machine.specs.Create.{Asked, slotsOf, grantable, freshState, cleared, createTurn}
 
 abbrev tests : Asked → ℕ → ℕ → List Bool
 tests a u t = leb 1 (a .w) ∷ leb (a .w) 16384 ∷ leb 1 (slotsOf (a .w) u t) ∷ arenaOk (a .arena) (a .length) ∷ []

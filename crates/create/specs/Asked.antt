@@ -1,6 +1,6 @@
 -- What creation is asked for, as the record that its rule reads. Assumes nothing.
 use Prim.Native.Nat.{ℕ}
-use Rattle.rules.specs.Create.{Asked}
+use Rattle.machine.specs.Create.{Asked}
 
 abbrev pub asked : ℕ → ℕ → ℕ → ℕ → ℕ → ℕ → Asked
 asked size g flags w arena length = record { size = size; g = g; flags = flags; w = w; arena = arena; length = length }

@@ -11,8 +11,8 @@ ghost use Rattle.state.specs.declared.Refusal.the-variants.{InvalidArgument};
 ghost use Rattle.state.specs.declared.Answer.the-variants.{Created};
 ghost use Rattle.state.specs.Table.{zeroState};
 ghost use Rattle.state.specs.Outcome.{refusal};
-ghost use Rattle.rules.specs.Turn.{turn};
-ghost use Rattle.rules.specs.Create.{poolsAsked, immediateAsked, slotsOf, grantable, freshState, cleared, createTurn};
+ghost use Rattle.machine.specs.Turn.{turn};
+ghost use Rattle.machine.specs.Create.{poolsAsked, immediateAsked, slotsOf, grantable, freshState, cleared, createTurn};
 ghost use Rattle.create.specs.Asked.{asked};
 
 fn lesser(a: usize, b: usize) -> usize
@@ -57,7 +57,7 @@ fn is_grantable(w: usize, arena: u64, length: u64, used: usize, stop: usize) -> 
     if slots_of(w, used, stop) < 1 {
         return false;
     }
-    shape::arena_ok(arena, length)
+    shape::creation::arena_ok(arena, length)
 }
 
 // The first `n` words cleared, no later ones.
@@ -84,8 +84,8 @@ fn fresh_state(
 ) -> State
     ensures { λ r. ⌜ r ≡ freshState (asked size g flags w arena length) slots ⌝ }
 {
-    let unit = limits::granularity_in_force(g);
-    let base = limits::base_size_in_force(size);
+    let unit = sizes::limits::granularity_in_force(g);
+    let base = sizes::limits::base_size_in_force(size);
     let pools = pools_asked(flags);
     let immediate = immediate_asked(flags);
     State {

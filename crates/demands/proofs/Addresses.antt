@@ -12,8 +12,8 @@ use Rattle.state.specs.declared.Refusal.{Refusal}
 use Rattle.state.specs.declared.Refusal.the-variants.{InvalidArgument, InvalidState}
 use Rattle.state.specs.declared.Answer.{Answer}
 use Rattle.state.specs.declared.Answer.the-variants.{Created, Granted, Released, Shrunk, Shown, Reset, Refused}
-use Rattle.rules.specs.Turn.{span}
-use Rattle.rules.specs.Machine.{query, release, shrink, step}
+use Rattle.machine.specs.Turn.{span}
+use Rattle.machine.specs.Machine.{query, release, shrink, step}
 use Rattle.ledger.specs.Ledger.{In, strike}
 use Rattle.ledger.specs.Reached.{Reached}
 use Rattle.ledger.proofs.View.{strike-head, strike-tail}

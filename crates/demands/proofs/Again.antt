@@ -8,8 +8,8 @@ use native.Mathlib.Omega.{arith}
 use Rattle.state.specs.declared.State.{State}
 use Rattle.state.specs.declared.Span.{Span}
 use Rattle.state.specs.Table.{blockAt}
-use Rattle.facts.proofs.Facts.{found-in}
-use Rattle.rules.specs.Release.{freeTurn, releaseTurn}
+use Rattle.shape_facts.proofs.Facts.{found-in}
+use Rattle.machine.specs.Release.{freeTurn, releaseTurn}
 use Rattle.ledger.specs.Ledger.{In}
 use Rattle.ledger.specs.Agrees.{within}
 use Rattle.ledger.proofs.View.{in-unit}

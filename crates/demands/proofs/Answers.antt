@@ -17,12 +17,12 @@ use Rattle.state.specs.declared.Answer.the-variants.{Released, Shrunk, Shown, R
 use Rattle.state.specs.Table.{blockAt}
 use Rattle.state.specs.Find.{holds, lookup}
 use Rattle.state.proofs.Find.{Least, least-of}
-use Rattle.facts.proofs.Facts.{found-in}
-use Rattle.rules.specs.Turn.{Turn, span, withLive, unitOf}
-use Rattle.rules.specs.Release.{lessUsed, freeTurn, releaseTurn}
-use Rattle.rules.specs.Shrink.{shrinkTurn}
-use Rattle.rules.specs.Span.{queryTurn}
-use Rattle.closed.proofs.Cases.{settle-cases}
+use Rattle.shape_facts.proofs.Facts.{found-in}
+use Rattle.machine.specs.Turn.{Turn, span, withLive, unitOf}
+use Rattle.machine.specs.Release.{lessUsed, freeTurn, releaseTurn}
+use Rattle.machine.specs.Shrink.{shrinkTurn}
+use Rattle.machine.specs.Span.{queryTurn}
+use Rattle.shape_kept.proofs.Cases.{settle-cases}
 use Rattle.ledger.specs.Ledger.{In}
 use Rattle.ledger.specs.Agrees.{Sound}
 use Rattle.ledger.proofs.Finds.{Finds, nowhere, nothing, entry, finds, stands, unit-is, not-zero, query-at, query-held, query-entry, release-zero, release-at, release-held, release-entry, shrink-zero, shrink-at, shrink-held, shrink-units, units-more, units-same, units-less}

@@ -26,19 +26,19 @@ use Rattle.state.specs.declared.Refusal.the-variants.{InvalidArgument, TooLarge
 use Rattle.state.specs.declared.Answer.{Answer}
 use Rattle.state.specs.declared.Answer.the-variants.{Created, Granted, Released, Shrunk, Shown, Reset, Refused}
 use Rattle.state.specs.Table.{blockAt, poolAt}
-use Rattle.facts.proofs.Facts.{unit-g, pool-3}
-use Rattle.facts.proofs.Search.{Left, Place as PlaceIn}
-use Rattle.facts.proofs.Pool.{whole, units-kept}
-use Rattle.rules.specs.Turn.{Turn, span}
-use Rattle.rules.specs.Alloc.{markTurn, makeTurn}
-use Rattle.rules.specs.Release.{freeTurn, releaseTurn}
-use Rattle.rules.specs.Machine.{alloc, release, step}
-use Rattle.paint.proofs.Lies.{marked-lies}
-use Rattle.closed.specs.Sized.{Sized}
-use Rattle.closed.proofs.Cases.{Seeks, Places, poolFor, unitsFor, searchFor, newSize}
-use Rattle.closed.proofs.After.{put-block}
-use Rattle.closed.proofs.Sized.{sized-search}
-use Rattle.closed.proofs.Request.{seeks-some, seeks-ready}
+use Rattle.shape_facts.proofs.Facts.{unit-g, pool-3}
+use Rattle.shape_facts.proofs.Search.{Left, Place as PlaceIn}
+use Rattle.shape_facts.proofs.Pool.{whole, units-kept}
+use Rattle.machine.specs.Turn.{Turn, span}
+use Rattle.machine.specs.Alloc.{markTurn, makeTurn}
+use Rattle.machine.specs.Release.{freeTurn, releaseTurn}
+use Rattle.machine.specs.Machine.{alloc, release, step}
+use Rattle.ledger.proofs.Lies.{marked-lies}
+use Rattle.shape_kept.specs.Sized.{Sized}
+use Rattle.shape_kept.proofs.Cases.{Seeks, Places, poolFor, unitsFor, searchFor, newSize}
+use Rattle.shape_kept.proofs.After.{put-block}
+use Rattle.shape_kept.proofs.Sized.{sized-search}
+use Rattle.shape_kept.proofs.Request.{seeks-some, seeks-ready}
 use Rattle.ledger.specs.Ledger.{enter}
 use Rattle.ledger.specs.First.{FirstFrom}
 use Rattle.ledger.specs.Reached.{Reached, called}

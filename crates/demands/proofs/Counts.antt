@@ -14,7 +14,7 @@ use Rattle.state.specs.declared.Span.{Span}
 use Rattle.state.specs.Table.{blockAt, poolAt, sum, only}
 use Rattle.state.specs.Shape.{inPool}
 use Rattle.state.proofs.Tests.{sum-same}
-use Rattle.paint.specs.Paint.{Piece, piece, units, Paints}
+use Rattle.ledger.specs.Paint.{Piece, piece, units, Paints}
 use Rattle.ledger.specs.Agrees.{view, viewOf, at, Homes, Clear}
 use Rattle.ledger.specs.Reached.{Reached}
 use Rattle.ledger.proofs.View.{lies-in, view-other, view-lies}

@@ -26,16 +26,16 @@ use Rattle.state.specs.declared.Answer.the-variants.{Granted, Refused}
 use Rattle.state.specs.Table.{blockAt, poolAt}
 use Rattle.state.specs.Find.{lowestSlot, lowestPlace, newestSize}
 use Rattle.state.specs.Change.{withTable}
-use Rattle.facts.proofs.Keep.{Same}
-use Rattle.facts.proofs.Facts.{unit-g, pool-3}
-use Rattle.facts.proofs.Search.{Left, Place as PlaceIn}
-use Rattle.facts.proofs.Pool.{whole, units-kept}
-use Rattle.rules.specs.Turn.{Turn, span, unitOf}
-use Rattle.rules.specs.Alloc.{markTurn, makeTurn}
-use Rattle.rules.specs.Machine.{alloc, step}
-use Rattle.closed.proofs.Cases.{Seeks, Places, poolFor, unitsFor, searchFor, newSize}
-use Rattle.closed.proofs.Sized.{sized-search}
-use Rattle.closed.proofs.Request.{seeks-some, seeks-pool, seeks-ready}
+use Rattle.shape_facts.proofs.Keep.{Same}
+use Rattle.shape_facts.proofs.Facts.{unit-g, pool-3}
+use Rattle.shape_facts.proofs.Search.{Left, Place as PlaceIn}
+use Rattle.shape_facts.proofs.Pool.{whole, units-kept}
+use Rattle.machine.specs.Turn.{Turn, span, unitOf}
+use Rattle.machine.specs.Alloc.{markTurn, makeTurn}
+use Rattle.machine.specs.Machine.{alloc, step}
+use Rattle.shape_kept.proofs.Cases.{Seeks, Places, poolFor, unitsFor, searchFor, newSize}
+use Rattle.shape_kept.proofs.Sized.{sized-search}
+use Rattle.shape_kept.proofs.Request.{seeks-some, seeks-pool, seeks-ready}
 use Rattle.ledger.specs.First.{First, FirstFrom}
 use Rattle.ledger.specs.Reached.{Reached}
 use Rattle.ledger.proofs.Search.{Combed}
@@ -45,7 +45,7 @@ use Rattle.ledger.proofs.Made.{made-answer, made-lies}
 use Rattle.ledger.proofs.Step.{combed, left}
 use Rattle.ledger.proofs.Reached.{Known, reached-known}
 use Rattle.demands.specs.Alloc.{Taken, sizeFor, wordsFor, Made, CannotMake, Goes}
-use Rattle.facts.proofs.Alike.{slot-alike, place-alike, newest-alike}
+use Rattle.shape_facts.proofs.Alike.{slot-alike, place-alike, newest-alike}
 
 pub two-sizes : (x : Rounded) (a b : ℕ) → x ≡ To a → x ≡ To b → a ≡ b
 two-sizes x a b p q = cc

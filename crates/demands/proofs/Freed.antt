@@ -11,11 +11,11 @@ use Rattle.sizes.proofs.Cases.{picked}
 use Rattle.state.specs.declared.State.{State}
 use Rattle.state.specs.Table.{blockAt, poolAt, one}
 use Rattle.state.specs.Shape.{isEmpty}
-use Rattle.rules.specs.Turn.{withLive}
-use Rattle.rules.specs.Alloc.{markTurn}
-use Rattle.rules.specs.Release.{lessUsed}
-use Rattle.closed.specs.Sized.{Sized}
-use Rattle.closed.proofs.After.{put-pool}
+use Rattle.machine.specs.Turn.{withLive}
+use Rattle.machine.specs.Alloc.{markTurn}
+use Rattle.machine.specs.Release.{lessUsed}
+use Rattle.shape_kept.specs.Sized.{Sized}
+use Rattle.shape_kept.proofs.After.{put-pool}
 
 pub marked-used : (b : Block) (i e : ℕ) → marked b i e .used ≡ b .used + (e - i)
 unfolding marked

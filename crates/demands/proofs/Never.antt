@@ -13,12 +13,12 @@ use Rattle.state.specs.declared.Refusal.the-variants.{InvalidArgument, TooLarge
 use Rattle.state.specs.declared.Answer.{Answer}
 use Rattle.state.specs.declared.Answer.the-variants.{Created, Granted, Released, Shrunk, Shown, Reset, Refused}
 use Rattle.state.specs.Shape.{goodShape}
-use Rattle.rules.specs.Turn.{Turn}
-use Rattle.rules.specs.Alloc.{allocTurn}
-use Rattle.rules.specs.Reset.{resetTurn}
-use Rattle.rules.specs.Release.{releaseTurn}
-use Rattle.rules.specs.Machine.{Call, create, alloc, release, shrink, query, softReset, hardReset, step}
-use Rattle.closed.proofs.Cases.{create-cases}
+use Rattle.machine.specs.Turn.{Turn}
+use Rattle.machine.specs.Alloc.{allocTurn}
+use Rattle.machine.specs.Reset.{resetTurn}
+use Rattle.machine.specs.Release.{releaseTurn}
+use Rattle.machine.specs.Machine.{Call, create, alloc, release, shrink, query, softReset, hardReset, step}
+use Rattle.shape_kept.proofs.Cases.{create-cases}
 use Rattle.ledger.specs.Reached.{Reached}
 use Rattle.ledger.proofs.Finds.{not-bad, shrink-release}
 use Rattle.ledger.proofs.Alloc.{Goes, refused, hit, full, made, goes}

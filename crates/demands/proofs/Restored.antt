@@ -11,7 +11,7 @@ use Rattle.numbers.specs.Pick.{pick}
 use Rattle.numbers.specs.Units.{bytesOf}
 use Rattle.numbers.proofs.Split.{by-eq, not-both}
 use Rattle.bits.specs.Bits.{bit, filled, Words}
-use Rattle.bits.proofs.Fill.{length-filled}
+use Rattle.bits.proofs.Filled.{length-filled}
 use Rattle.runs.specs.Window.{FreeAt}
 use Rattle.slots.specs.Slots.{slotOf, putSlot, fillSlot}
 use Rattle.slots.proofs.Laws.{slot-own, put-put-slot, put-slot-same, words-slot}
@@ -26,16 +26,16 @@ use Rattle.state.specs.Table.{blockAt, poolAt, one}
 use Rattle.state.specs.Shape.{isEmpty, inPool, emptiesOf}
 use Rattle.state.proofs.Tests.{sum-term}
 use Rattle.shape.specs.Shaped.{Shaped}
-use Rattle.facts.proofs.Facts.{pool-3, count-64}
-use Rattle.rules.specs.Turn.{Turn, turn, span, unitOf}
-use Rattle.rules.specs.Alloc.{markTurn}
-use Rattle.rules.specs.Release.{freeTurn}
-use Rattle.paint.proofs.Back.{used-back, stop-back}
-use Rattle.paint.proofs.Lies.{Lies, marked-lies, released-lies}
-use Rattle.closed.specs.Sized.{Sized}
-use Rattle.closed.proofs.Cases.{settle-cases}
-use Rattle.closed.proofs.After.{put-block, put-block-other, less-block, less-block-other}
-use Rattle.closed.proofs.Sized.{sized-block, sized-pool, sized-live}
+use Rattle.shape_facts.proofs.Facts.{pool-3, count-64}
+use Rattle.machine.specs.Turn.{Turn, turn, span, unitOf}
+use Rattle.machine.specs.Alloc.{markTurn}
+use Rattle.machine.specs.Release.{freeTurn}
+use Rattle.ledger.proofs.Back.{used-back, stop-back}
+use Rattle.ledger.proofs.Lies.{Lies, marked-lies, released-lies}
+use Rattle.shape_kept.specs.Sized.{Sized}
+use Rattle.shape_kept.proofs.Cases.{settle-cases}
+use Rattle.shape_kept.proofs.After.{put-block, put-block-other, less-block, less-block-other}
+use Rattle.shape_kept.proofs.Sized.{sized-block, sized-pool, sized-live}
 use Rattle.ledger.specs.Agrees.{viewOf, at, Agrees}
 use Rattle.ledger.proofs.Table.{Stands, slot-room}
 use Rattle.ledger.proofs.Calls.{part-u, part-t}

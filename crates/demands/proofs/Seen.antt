@@ -14,9 +14,9 @@ use Rattle.state.specs.declared.Span.{Span}
 use Rattle.state.specs.declared.Answer.{Answer}
 use Rattle.state.specs.declared.Answer.the-variants.{Granted}
 use Rattle.state.specs.Table.{blockAt}
-use Rattle.rules.specs.Turn.{span}
-use Rattle.rules.specs.Machine.{alloc, step}
-use Rattle.paint.proofs.Sound.{sound-windowed}
+use Rattle.machine.specs.Turn.{span}
+use Rattle.machine.specs.Machine.{alloc, step}
+use Rattle.ledger.proofs.Sound.{sound-windowed}
 use Rattle.ledger.specs.Ledger.{enter}
 use Rattle.ledger.specs.Agrees.{viewOf}
 use Rattle.ledger.specs.First.{LowestPlace}

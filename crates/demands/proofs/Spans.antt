@@ -12,9 +12,9 @@ use Rattle.block.specs.declared.Block.{Block}
 use Rattle.state.specs.declared.State.{State}
 use Rattle.state.specs.declared.Span.{Span}
 use Rattle.state.specs.Table.{blockAt}
-use Rattle.paint.specs.Paint.{Piece, piece, held, Inside as InsideArea, In as InPieces}
-use Rattle.paint.proofs.Pieces.{has-in, in-inside, in-held}
-use Rattle.paint.proofs.Paints.{held-one}
+use Rattle.ledger.specs.Paint.{Piece, piece, held, Inside as InsideArea, In as InPieces}
+use Rattle.ledger.proofs.Pieces.{has-in, in-inside, in-held}
+use Rattle.ledger.proofs.Paints.{held-one}
 use Rattle.ledger.specs.Ledger.{In}
 use Rattle.ledger.specs.Agrees.{within, view, viewOf, at, Homes}
 use Rattle.ledger.specs.Reached.{Reached}

@@ -4,7 +4,7 @@ use mathlib.Core.List.{List, [], _∷_, _++_}
 use mathlib.Core.Path.{_≡_, refl}
 use lib.ListN.{replicate}
 use Rattle.bits.specs.Bits.{digit, bit, put, setBit, filled}
-use Rattle.bits.proofs.Fill.{words-zeros}
+use Rattle.bits.proofs.Filled.{words-zeros}
 use Rattle.runs.specs.Seek.{freeFrom, lowestFit, longestRun, lastEnd, seek}
 use Rattle.block.specs.Marking.{moved, marked, released}
 use Rattle.block.specs.Search.{looks, lookInto}
@@ -17,14 +17,14 @@ use Rattle.state.specs.Table.{all, sum}
 use Rattle.state.specs.Shape.{clauses}
 use Rattle.state.specs.Find.{leastFrom, latest}
 use Rattle.state.specs.Change.{listFrom}
-use Rattle.rules.specs.Turn.{Turn, span}
-use Rattle.rules.specs.Create.{Asked, createTurn}
-use Rattle.rules.specs.Alloc.{searchFrom, allocTurn}
-use Rattle.rules.specs.Span.{queryTurn}
-use Rattle.rules.specs.Release.{releaseTurn}
-use Rattle.rules.specs.Shrink.{shrinkTurn}
-use Rattle.rules.specs.Reset.{clearBlocks, kept, resetTurn}
-use Rattle.rules.specs.Machine.{Call, alloc, release, shrink, query, softReset, step}
+use Rattle.machine.specs.Turn.{Turn, span}
+use Rattle.machine.specs.Create.{Asked, createTurn}
+use Rattle.machine.specs.Alloc.{searchFrom, allocTurn}
+use Rattle.machine.specs.Span.{queryTurn}
+use Rattle.machine.specs.Release.{releaseTurn}
+use Rattle.machine.specs.Shrink.{shrinkTurn}
+use Rattle.machine.specs.Reset.{clearBlocks, kept, resetTurn}
+use Rattle.machine.specs.Machine.{Call, alloc, release, shrink, query, softReset, step}
 use Rattle.ledger.specs.Ledger.{strike, enter}
 use Rattle.ledger.specs.Reached.{Reached, created, called}
 

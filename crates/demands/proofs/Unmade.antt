@@ -12,7 +12,7 @@ use borrow.Author.Tests.{eqb-false, lt-ltb, not-true}
 use Rattle.numbers.specs.Pick.{pick}
 use Rattle.numbers.specs.Units.{unitsOf, bytesOf}
 use Rattle.bits.specs.Bits.{filled}
-use Rattle.bits.proofs.Fill.{length-filled}
+use Rattle.bits.proofs.Filled.{length-filled}
 use Rattle.slots.specs.Slots.{slotOf, fillSlot}
 use Rattle.slots.proofs.Laws.{length-slot, slot-other}
 use Rattle.block.specs.declared.Block.{Block}
@@ -27,15 +27,15 @@ use Rattle.state.specs.Shape.{isEmpty}
 use Rattle.state.specs.Change.{inserted, removed}
 use Rattle.shape.specs.Shaped.{Shaped}
 use Rattle.shape.proofs.Bools.{or-cases}
-use Rattle.rules.specs.Turn.{Turn, turn, span, unitOf, clearSlot}
-use Rattle.rules.specs.Alloc.{makeTurn}
-use Rattle.rules.specs.Release.{freeTurn}
-use Rattle.paint.proofs.Lies.{Lies, released-lies}
-use Rattle.closed.specs.Sized.{Sized}
-use Rattle.closed.proofs.Cases.{Places, newSize, settle-cases}
-use Rattle.closed.proofs.After.{inserted-pool, less-block, less-block-other, removed-block}
-use Rattle.closed.proofs.Sized.{sized-block, sized-pool, sized-live, sized-less, sized-inserted}
-use Rattle.closed.proofs.Words.{make-long, length-fill-slot}
+use Rattle.machine.specs.Turn.{Turn, turn, span, unitOf, clearSlot}
+use Rattle.machine.specs.Alloc.{makeTurn}
+use Rattle.machine.specs.Release.{freeTurn}
+use Rattle.ledger.proofs.Lies.{Lies, released-lies}
+use Rattle.shape_kept.specs.Sized.{Sized}
+use Rattle.shape_kept.proofs.Cases.{Places, newSize, settle-cases}
+use Rattle.shape_kept.proofs.After.{inserted-pool, less-block, less-block-other, removed-block}
+use Rattle.shape_kept.proofs.Sized.{sized-block, sized-pool, sized-live, sized-less, sized-inserted}
+use Rattle.shape_kept.proofs.Words.{make-long, length-fill-slot}
 use Rattle.ledger.specs.Agrees.{Agrees}
 use Rattle.ledger.proofs.Table.{Stands, slot-room}
 use Rattle.ledger.proofs.Grow.{Elsewhere}

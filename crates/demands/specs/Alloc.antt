@@ -13,7 +13,7 @@ use Rattle.state.specs.declared.Refusal.the-variants.{NoMapping}
 use Rattle.state.specs.declared.Answer.the-variants.{Granted, Refused}
 use Rattle.state.specs.Table.{blockAt}
 use Rattle.state.specs.Find.{lowestSlot, lowestPlace, newestSize}
-use Rattle.rules.specs.Turn.{Turn, span}
+use Rattle.machine.specs.Turn.{Turn, span}
 use Rattle.ledger.specs.First.{First}
 
 -- at the lowest start in the first block of the pool, oldest first, that has n free units in a row; no block is made

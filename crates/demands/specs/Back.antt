@@ -5,7 +5,7 @@ use mathlib.Core.Path.{_≡_}
 use Rattle.slots.specs.Slots.{slotOf}
 use Rattle.state.specs.declared.State.{State}
 use Rattle.state.specs.Table.{blockAt}
-use Rattle.rules.specs.Turn.{Turn}
+use Rattle.machine.specs.Turn.{Turn}
 
 -- block i stands in y as it stood in s: its base, size, slot and pool, and its words in both maps
 pub record Stood (s : State) (u t : List ℕ) (y : Turn) (i : ℕ) : Type 0 where

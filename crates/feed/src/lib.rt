@@ -97,7 +97,7 @@ fn fill(file: i32, buffer: &mut [u8], waiting: usize) -> Got
 fn last(state: State, offset: u64, waiting: usize, out: &mut [u8]) -> Feed
     ensures { λ r. ⌜ (r .waiting ≡ waiting) × (r .written ≤ length (now (out .entry))) ⌝ }
 {
-    let written = last::finish(state, offset, waiting, out);
+    let written = lines::finish(state, offset, waiting, out);
     Feed {
         state,
         offset,

@@ -14,11 +14,11 @@ use Rattle.state.specs.declared.Span.{Span}
 use Rattle.state.specs.Table.{blockAt}
 use Rattle.shape.specs.Shaped.{Shaped}
 use Rattle.shape.proofs.Shaped.{shaped-is}
-use Rattle.rules.specs.Turn.{span, unitOf}
-use Rattle.facts.proofs.Facts.{unit-g, pool-3, found-in, held-is}
-use Rattle.closed.proofs.Cases.{Holds}
-use Rattle.unused.specs.Unused.{bytesOfBlock, blocksUpTo, made}
-use Rattle.unused.specs.Within.{Within, AllWithin}
+use Rattle.machine.specs.Turn.{span, unitOf}
+use Rattle.shape_facts.proofs.Facts.{unit-g, pool-3, found-in, held-is}
+use Rattle.shape_kept.proofs.Cases.{Holds}
+use Rattle.filling.specs.Unused.{bytesOfBlock, blocksUpTo, made}
+use Rattle.filling.specs.Within.{Within, AllWithin}
 
 -- ---- a span that stands at an address
 module _ (s : State) (u t : List ℕ) (a j i e : ℕ) (h : Holds s u t a j i e) where

@@ -26,23 +26,23 @@ use Rattle.state.specs.Table.{blockAt}
 use Rattle.state.specs.Shape.{goodShape, badShape}
 use Rattle.state.specs.Find.{lookup}
 use Rattle.shape.proofs.Shaped.{shaped-is}
-use Rattle.rules.specs.Turn.{Turn, turn, refuse, span, withLive, unitOf}
-use Rattle.rules.specs.Span.{shownTurn, queriedTurn, queryTurn}
-use Rattle.rules.specs.Alloc.{markTurn, makeTurn, allocTurn}
-use Rattle.rules.specs.Release.{lessUsed, settle, freeTurn, releaseTurn}
-use Rattle.rules.specs.Shrink.{cutDownTurn, shrinkTurn}
-use Rattle.rules.specs.Reset.{emptyTable, clearBlocks, kept, resetTurn}
-use Rattle.rules.specs.Machine.{Call, create, alloc, release, shrink, query, softReset, hardReset, step}
-use Rattle.facts.proofs.Facts.{count-64}
-use Rattle.facts.proofs.Searched.{search-other}
-use Rattle.closed.specs.Sized.{Sized}
-use Rattle.closed.specs.Closed.{Good}
-use Rattle.closed.proofs.Cases.{Holds, poolFor, unitsFor, searchFor, newSize, search-count, settle-cases, release-cases, shrink-cases, reset-cases, alloc-cases}
-use Rattle.closed.proofs.Kept.{kept-other}
-use Rattle.closed.proofs.Closed.{closed-other}
-use Rattle.unused.specs.Unused.{made, freed, behind, cutOff, keptBytes, blocksUpTo, unused, filled, imageAfter, lent, lentStep}
-use Rattle.unused.specs.Within.{AllWithin, Outside}
-use Rattle.unused.proofs.Unused.{within-append, made-none, blocks-none, filled-none, filled-append, filled-stays}
+use Rattle.machine.specs.Turn.{Turn, turn, refuse, span, withLive, unitOf}
+use Rattle.machine.specs.Span.{shownTurn, queriedTurn, queryTurn}
+use Rattle.machine.specs.Alloc.{markTurn, makeTurn, allocTurn}
+use Rattle.machine.specs.Release.{lessUsed, settle, freeTurn, releaseTurn}
+use Rattle.machine.specs.Shrink.{cutDownTurn, shrinkTurn}
+use Rattle.machine.specs.Reset.{emptyTable, clearBlocks, kept, resetTurn}
+use Rattle.machine.specs.Machine.{Call, create, alloc, release, shrink, query, softReset, hardReset, step}
+use Rattle.shape_facts.proofs.Facts.{count-64}
+use Rattle.shape_facts.proofs.Searched.{search-other}
+use Rattle.shape_kept.specs.Sized.{Sized}
+use Rattle.shape_kept.specs.Closed.{Good}
+use Rattle.shape_kept.proofs.Cases.{Holds, poolFor, unitsFor, searchFor, newSize, search-count, settle-cases, release-cases, shrink-cases, reset-cases, alloc-cases}
+use Rattle.shape_kept.proofs.Kept.{kept-other}
+use Rattle.shape_kept.proofs.Closed.{closed-other}
+use Rattle.filling.specs.Unused.{made, freed, behind, cutOff, keptBytes, blocksUpTo, unused, filled, imageAfter, lent, lentStep}
+use Rattle.filling.specs.Within.{AllWithin, Outside}
+use Rattle.filling.proofs.Unused.{within-append, made-none, blocks-none, filled-none, filled-append, filled-stays}
 use Rattle.filling.proofs.Inside.{span-inside, tail-inside, blocks-inside, made-inside}
 
 -- ---- the call

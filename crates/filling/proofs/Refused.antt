@@ -16,9 +16,9 @@ use Rattle.state.specs.declared.Refusal.the-variants.{InvalidArgument, BadShape
 use Rattle.state.specs.declared.Answer.{Answer}
 use Rattle.state.specs.declared.Answer.the-variants.{Refused}
 use Rattle.state.specs.Shape.{badShape}
-use Rattle.rules.specs.Turn.{refuse}
-use Rattle.rules.specs.Machine.{Call, step}
-use Rattle.unused.specs.Unused.{lentStep}
+use Rattle.machine.specs.Turn.{refuse}
+use Rattle.machine.specs.Machine.{Call, step}
+use Rattle.filling.specs.Unused.{lentStep}
 use Rattle.filling.specs.Refused.{LentWhen}
 
 pub same-refusal : (a b : Refusal) → Refused a ≡ Refused b → b ≡ a

@@ -1,1 +1,4 @@
+pub mod Unused
+pub mod Within
 pub mod Refused
+pub mod Copying

@@ -10,7 +10,7 @@ use Rattle.state.specs.declared.Refusal.{Refusal}
 use Rattle.state.specs.declared.Refusal.the-variants.{InvalidArgument, BadShape}
 use Rattle.state.specs.declared.Answer.the-variants.{Refused}
 use Rattle.state.specs.Shape.{badShape}
-use Rattle.rules.specs.Machine.{Call, step}
+use Rattle.machine.specs.Machine.{Call, step}
 
 -- 5 for a bad shape; then 1 for an image whose length, its room, isn't the arena's; then as the call without an image
 abbrev pub LentWhen : State → List ℕ → List ℕ → ℕ → Call → Refusal → Type 0

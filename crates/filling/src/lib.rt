@@ -1,4 +1,7 @@
 // The calls with an image of the arena lent to them: what a call leaves unused is filled by a pattern.
+pub mod copy;
+pub mod fill;
+
 use state::Outcome;
 use state::Refusal;
 use state::State;
@@ -8,15 +11,15 @@ ghost use Rattle.numbers.specs.Pick.{pick};
 ghost use Rattle.state.specs.declared.Refusal.the-variants.{InvalidArgument, BadShape};
 ghost use Rattle.state.specs.Shape.{badShape};
 ghost use Rattle.state.specs.Outcome.{refusal};
-ghost use Rattle.rules.specs.Turn.{turn};
-ghost use Rattle.rules.specs.Machine.{alloc, release, shrink, softReset, hardReset};
-ghost use Rattle.unused.specs.Unused.{lentStep, imageAfter};
+ghost use Rattle.machine.specs.Turn.{turn};
+ghost use Rattle.machine.specs.Machine.{alloc, release, shrink, softReset, hardReset};
+ghost use Rattle.filling.specs.Unused.{lentStep, imageAfter};
 
 // Why a call is refused where the image is not as long as the arena: a bad shape comes first.
 pub fn wrong_image(s: State, used: usize, stop: usize) -> Refusal
     ensures { λ r. ⌜ r ≡ pick (badShape s used stop) BadShape InvalidArgument ⌝ }
 {
-    if !whole::shape_ok(s, used, stop) {
+    if !shape::shape_ok(s, used, stop) {
         return Refusal::BadShape;
     }
     Refusal::InvalidArgument
@@ -46,7 +49,7 @@ pub fn alloc(
     let arena = s.arena;
     let before = s.count;
     let r = alloc::alloc(s, used, stop, size);
-    unused::fill_made(image, arena, before, r.state, pattern);
+    fill::fill_made(image, arena, before, r.state, pattern);
     r
 }
 
@@ -68,7 +71,7 @@ pub fn release(
     let arena = s.arena;
     let r = release::release(s, used, stop, address);
     let answer = r.answer;
-    unused::fill_freed(image, arena, answer, pattern);
+    fill::fill_freed(image, arena, answer, pattern);
     r
 }
 
@@ -92,8 +95,8 @@ pub fn shrink(
     let was = query::query(s, used, stop, address);
     let r = shrink::shrink(s, used, stop, address, size);
     let after = r.answer;
-    unused::fill_freed(image, arena, after, pattern);
-    unused::fill_cut_off(image, arena, was, after, pattern);
+    fill::fill_freed(image, arena, after, pattern);
+    fill::fill_cut_off(image, arena, was, after, pattern);
     r
 }
 
@@ -131,6 +134,6 @@ pub fn soft_reset(
     let arena = s.arena;
     let r = reset::soft_reset(s, used, stop);
     let answer = r.answer;
-    unused::fill_kept(image, arena, r.state, answer, pattern);
+    fill::fill_kept(image, arena, r.state, answer, pattern);
     r
 }

@@ -8,7 +8,7 @@ use native.Mathlib.Numerals.{add-one}
 use native.Mathlib.Omega.{arith}
 use lib.ListN.{length, set, getD, length-append, List·getD-append}
 use lib.Seq.{sets, length-sets, getD-at}
-use Rattle.put.proofs.Put.{sets-append}
+use Rattle.text.proofs.Put.{sets-append}
 use Rattle.image.proofs.Sets.{sets-out, sets-in}
 use Rattle.image.specs.Image.{patternByte, repeated, filledAt}
 

@@ -7,10 +7,10 @@ use Rattle.block.specs.Marking.{markReleased}
 use Rattle.state.specs.declared.State.{State}
 use Rattle.state.specs.declared.Span.{Span}
 use Rattle.state.specs.Table.{blockAt}
-use Rattle.rules.specs.Turn.{Turn, withLive}
-use Rattle.rules.specs.Release.{lessUsed, freeTurn, releaseTurn}
-use Rattle.rules.specs.Machine.{Call, create, alloc, release, shrink, query, softReset, hardReset, step}
-use Rattle.closed.proofs.Cases.{search-arena, settle-cases, create-cases, query-cases, release-cases, shrink-cases, reset-cases, alloc-cases}
+use Rattle.machine.specs.Turn.{Turn, withLive}
+use Rattle.machine.specs.Release.{lessUsed, freeTurn, releaseTurn}
+use Rattle.machine.specs.Machine.{Call, create, alloc, release, shrink, query, softReset, hardReset, step}
+use Rattle.shape_kept.proofs.Cases.{search-arena, settle-cases, create-cases, query-cases, release-cases, shrink-cases, reset-cases, alloc-cases}
 use Rattle.ledger.specs.Ledger.{enter, In}
 
 module _ (s : State) (u t : List ℕ) (l : List Span) where

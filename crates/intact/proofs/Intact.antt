@@ -9,8 +9,8 @@ use Rattle.state.specs.declared.Span.{Span}
 use Rattle.state.specs.declared.Answer.the-variants.{Shown}
 use Rattle.ledger.specs.Ledger.{In}
 use Rattle.demands.proofs.Spans.{one-entry}
-use Rattle.copying.specs.Copying.{copyAnswer}
-use Rattle.copying.proofs.Written.{copied-in}
+use Rattle.filling.specs.Copying.{copyAnswer}
+use Rattle.filling.proofs.Written.{copied-in}
 use Rattle.intact.specs.Acts.{Act, copy, World, act, acts, ReachedBy, byteAt, Live, Leave}
 use Rattle.intact.proofs.Step.{act-reached, act-stays}
 

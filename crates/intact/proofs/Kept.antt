@@ -13,13 +13,13 @@ use Rattle.state.specs.declared.Span.{Span}
 use Rattle.state.specs.declared.Refusal.{Refusal}
 use Rattle.state.specs.declared.Answer.{Answer}
 use Rattle.state.specs.declared.Answer.the-variants.{Granted, Released, Shrunk, Shown, Refused}
-use Rattle.rules.specs.Turn.{Turn, span}
-use Rattle.rules.specs.Alloc.{markTurn}
-use Rattle.rules.specs.Release.{releaseTurn}
-use Rattle.rules.specs.Span.{queryTurn}
-use Rattle.rules.specs.Reset.{resetTurn}
-use Rattle.rules.specs.Machine.{Call, create, alloc, release, shrink, query, softReset, hardReset, step}
-use Rattle.closed.proofs.Cases.{Seeks, unitsFor, searchFor, search-count, create-cases, query-cases, reset-cases}
+use Rattle.machine.specs.Turn.{Turn, span}
+use Rattle.machine.specs.Alloc.{markTurn}
+use Rattle.machine.specs.Release.{releaseTurn}
+use Rattle.machine.specs.Span.{queryTurn}
+use Rattle.machine.specs.Reset.{resetTurn}
+use Rattle.machine.specs.Machine.{Call, create, alloc, release, shrink, query, softReset, hardReset, step}
+use Rattle.shape_kept.proofs.Cases.{Seeks, unitsFor, searchFor, search-count, create-cases, query-cases, reset-cases}
 use Rattle.ledger.specs.Ledger.{enter, strike, In}
 use Rattle.ledger.specs.Reached.{Reached}
 use Rattle.ledger.proofs.Alloc.{refused, hit, full, made as makes, goes, Goes as Ways}
@@ -31,9 +31,9 @@ use Rattle.demands.proofs.Seen.{alloc-enters}
 use Rattle.demands.proofs.First.{alloc-goes}
 use Rattle.demands.proofs.Answers.{unknown, GivenBack, zero-address, no-block, no-span, struck, given-back, CutDown, too-many, shortened, cut-down}
 use Rattle.demands.proofs.Addresses.{release-strikes, shrink-to-none, query-shows}
-use Rattle.unused.specs.Unused.{made, freed, behind, cutOff, keptBytes, unused}
-use Rattle.unused.specs.Within.{Outside}
-use Rattle.unused.proofs.Unused.{made-one, made-none}
+use Rattle.filling.specs.Unused.{made, freed, behind, cutOff, keptBytes, unused}
+use Rattle.filling.specs.Within.{Outside}
+use Rattle.filling.proofs.Unused.{made-one, made-none}
 use Rattle.intact.proofs.New.{made-beside}
 
 -- two entries at two addresses of a list that is apart

@@ -5,8 +5,8 @@ use Rattle.state.specs.declared.State.{State}
 use Rattle.state.specs.declared.Place.the-variants.{Address}
 use Rattle.state.specs.Table.{blockAt}
 use Rattle.state.specs.Find.{lowestPlace}
-use Rattle.rules.specs.Turn.{Turn}
-use Rattle.closed.proofs.Make.{place-apart}
+use Rattle.machine.specs.Turn.{Turn}
+use Rattle.shape_kept.proofs.Make.{place-apart}
 use Rattle.ledger.proofs.Table.{Beside}
 use Rattle.demands.specs.Alloc.{Made}
 

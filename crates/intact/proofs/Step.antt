@@ -8,18 +8,18 @@ use lib.ListN.{length, getD}
 use Rattle.numbers.proofs.Split.{by-eq, by-le}
 use Rattle.state.specs.declared.State.{State}
 use Rattle.state.specs.declared.Span.{Span}
-use Rattle.rules.specs.Turn.{Turn}
-use Rattle.rules.specs.Machine.{Call, step}
+use Rattle.machine.specs.Turn.{Turn}
+use Rattle.machine.specs.Machine.{Call, step}
 use Rattle.ledger.specs.Ledger.{enter, In}
 use Rattle.ledger.specs.Reached.{Reached, called}
 use Rattle.ledger.proofs.Reached.{Known, reached-known}
 use Rattle.demands.proofs.Spans.{spans-lie-apart, span-in-one-block, block-in-arena, one-entry}
 use Rattle.demands.proofs.Addresses.{query-shows}
-use Rattle.unused.specs.Unused.{unused, lentStep, imageAfter}
-use Rattle.unused.specs.Within.{Outside}
+use Rattle.filling.specs.Unused.{unused, lentStep, imageAfter}
+use Rattle.filling.specs.Within.{Outside}
 use Rattle.filling.proofs.Lent.{lent-cases, unused-refused, others-stay}
-use Rattle.copying.specs.Copying.{copyImage}
-use Rattle.copying.proofs.Written.{copied-out, copied-within}
+use Rattle.filling.specs.Copying.{copyImage}
+use Rattle.filling.proofs.Written.{copied-out, copied-within}
 use Rattle.intact.specs.Acts.{Act, plain, call, copy, World, act, ReachedBy, byteAt, Writes}
 use Rattle.intact.proofs.Arena.{arena-stays}
 use Rattle.intact.proofs.Kept.{two-apart, Kept, call-kept}

@@ -14,10 +14,10 @@ use Rattle.state.specs.Table.{all, sum}
 use Rattle.state.specs.Shape.{clauses}
 use Rattle.state.specs.Find.{leastFrom, latest}
 use Rattle.state.specs.Change.{listFrom}
-use Rattle.rules.specs.Create.{createTurn}
-use Rattle.rules.specs.Alloc.{searchFrom, allocTurn}
-use Rattle.rules.specs.Release.{releaseTurn}
-use Rattle.rules.specs.Machine.{alloc, release}
+use Rattle.machine.specs.Create.{createTurn}
+use Rattle.machine.specs.Alloc.{searchFrom, allocTurn}
+use Rattle.machine.specs.Release.{releaseTurn}
+use Rattle.machine.specs.Machine.{alloc, release}
 use Rattle.ledger.specs.Ledger.{strike}
 use Rattle.demands.proofs.T1.{asked, first}
 use Rattle.intact.specs.Acts.{World, plain, acts, Leave}

@@ -5,12 +5,12 @@ use mathlib.Core.Path.{_≡_}
 use lib.ListN.{length, getD}
 use Rattle.state.specs.declared.State.{State}
 use Rattle.state.specs.declared.Span.{Span}
-use Rattle.rules.specs.Turn.{Turn}
-use Rattle.rules.specs.Machine.{Call, step}
+use Rattle.machine.specs.Turn.{Turn}
+use Rattle.machine.specs.Machine.{Call, step}
 use Rattle.ledger.specs.Ledger.{enter, In}
 use Rattle.ledger.specs.Reached.{Reached}
-use Rattle.unused.specs.Unused.{lentStep, imageAfter}
-use Rattle.copying.specs.Copying.{copyImage}
+use Rattle.filling.specs.Unused.{lentStep, imageAfter}
+use Rattle.filling.specs.Copying.{copyImage}
 
 -- a call without an image; one with the image and a pattern (a creation and a query are made without: what is said of them here no function does); a write, at
 -- an address from an offset on, of bytes

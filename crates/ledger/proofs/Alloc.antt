@@ -29,12 +29,12 @@ use Rattle.state.specs.Table.{blockAt, poolAt}
 use Rattle.state.specs.Shape.{goodShape}
 use Rattle.state.specs.Find.{lowestPlace, lowestSlot}
 use Rattle.shape.specs.Shaped.{Shaped}
-use Rattle.facts.proofs.Facts.{unit-g, pool-3}
-use Rattle.rules.specs.Turn.{refuse, span}
-use Rattle.rules.specs.Alloc.{markTurn, makeTurn, placeTurn, searchedTurn, sizeTurn, allocTurn}
-use Rattle.facts.proofs.Pool.{whole}
-use Rattle.paint.proofs.Lies.{marked-lies}
-use Rattle.closed.proofs.Cases.{Seeks, Places, poolFor, unitsFor, searchFor, newSize}
+use Rattle.shape_facts.proofs.Facts.{unit-g, pool-3}
+use Rattle.machine.specs.Turn.{refuse, span}
+use Rattle.machine.specs.Alloc.{markTurn, makeTurn, placeTurn, searchedTurn, sizeTurn, allocTurn}
+use Rattle.shape_facts.proofs.Pool.{whole}
+use Rattle.ledger.proofs.Lies.{marked-lies}
+use Rattle.shape_kept.proofs.Cases.{Seeks, Places, poolFor, unitsFor, searchFor, newSize}
 use Rattle.ledger.specs.Agrees.{at, Agrees}
 use Rattle.ledger.proofs.Table.{set-stands}
 use Rattle.ledger.proofs.Calls.{mark-agrees}

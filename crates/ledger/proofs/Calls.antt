@@ -6,7 +6,7 @@ use mathlib.Core.Path.{_≡_, refl, sym, ap, subst, subst₂, _∙_}
 use native.Mathlib.Omega.{arith}
 use lib.ListN.{length, set}
 use Rattle.bits.specs.Bits.{bit, filled}
-use Rattle.bits.proofs.Fill.{length-filled}
+use Rattle.bits.proofs.Filled.{length-filled}
 use Rattle.slots.specs.Slots.{slotOf, putSlot, fillSlot}
 use Rattle.slots.proofs.Laws.{length-slot, slot-own, put-put-slot, put-slot-same}
 use Rattle.block.specs.declared.Block.{Block}
@@ -14,10 +14,10 @@ use Rattle.block.specs.declared.Looked.the-variants.{Missed}
 use Rattle.block.specs.Marking.{marked, released, shrunk}
 use Rattle.block.specs.Search.{lookInto}
 use Rattle.state.specs.declared.Span.{Span}
-use Rattle.rules.specs.Turn.{span}
-use Rattle.paint.specs.Paint.{Piece, piece, strike as strikePiece}
-use Rattle.paint.proofs.Sound.{mark-sound, release-sound, shrink-sound, tight-sound}
-use Rattle.paint.proofs.Lies.{numbers-lie, marked-lies, released-lies, missed-lies}
+use Rattle.machine.specs.Turn.{span}
+use Rattle.ledger.specs.Paint.{Piece, piece, strike as strikePiece}
+use Rattle.ledger.proofs.Sound.{mark-sound, release-sound, shrink-sound, tight-sound}
+use Rattle.ledger.proofs.Lies.{numbers-lie, marked-lies, released-lies, missed-lies}
 use Rattle.ledger.specs.Ledger.{In, strike}
 use Rattle.ledger.specs.Agrees.{within, viewOf, at, Agrees}
 use Rattle.ledger.proofs.View.{in-unit, view-new, view-other, view-strike, view-strike-other, in-view}

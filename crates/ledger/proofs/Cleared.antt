@@ -7,7 +7,7 @@ use native.Mathlib.Omega.{arith}
 use lib.ListN.{length, getD, drop, replicate, length-replicate, List·getD-append}
 use lib.Seq.{ext-getD}
 use Rattle.numbers.proofs.Split.{by-eq}
-use Rattle.bits.proofs.Fill.{bit-zeros}
+use Rattle.bits.proofs.Filled.{bit-zeros}
 use Rattle.slots.specs.Slots.{slotOf}
 use Rattle.slots.proofs.Laws.{length-slot, slot-word, slot-own, slot-other}
 use Rattle.block.specs.declared.Block.{Block}
@@ -15,13 +15,13 @@ use Rattle.block.specs.Marking.{emptied}
 use Rattle.state.specs.declared.State.{State}
 use Rattle.state.specs.Table.{blockAt}
 use Rattle.state.proofs.Lists.{getD-replicate}
-use Rattle.facts.proofs.Cleared.{length-cleared}
-use Rattle.rules.specs.Turn.{clearSlot}
-use Rattle.rules.specs.Create.{cleared}
-use Rattle.rules.specs.Reset.{clearBlocks}
-use Rattle.facts.proofs.Clear.{length-clear}
-use Rattle.paint.specs.Paint.{Sound as SoundBlock}
-use Rattle.paint.proofs.Sound.{emptied-sound}
+use Rattle.shape_facts.proofs.Cleared.{length-cleared}
+use Rattle.machine.specs.Turn.{clearSlot}
+use Rattle.machine.specs.Create.{cleared}
+use Rattle.machine.specs.Reset.{clearBlocks}
+use Rattle.shape_facts.proofs.Clear.{length-clear}
+use Rattle.ledger.specs.Paint.{Sound as SoundBlock}
+use Rattle.ledger.proofs.Sound.{emptied-sound}
 use Rattle.ledger.specs.Agrees.{view, viewOf, at, Clear, Agrees}
 use Rattle.ledger.proofs.Table.{slot-room, sound-moved}
 

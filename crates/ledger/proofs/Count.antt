@@ -12,7 +12,7 @@ use Rattle.state.specs.declared.Span.{Span}
 use Rattle.state.specs.Table.{sum}
 use Rattle.state.proofs.Tests.{sum-le, sum-same}
 use Rattle.shape.proofs.Bools.{by-bool}
-use Rattle.paint.specs.Paint.{Piece, piece, units, Inside}
+use Rattle.ledger.specs.Paint.{Piece, piece, units, Inside}
 use Rattle.ledger.specs.Agrees.{within, view, viewOf, at, Homes, Agrees}
 use Rattle.ledger.proofs.View.{view-lies}
 

@@ -24,11 +24,11 @@ use Rattle.state.specs.Find.{holds, lookup}
 use Rattle.state.proofs.Find.{Least, least-of}
 use Rattle.shape.specs.Shaped.{Shaped}
 use Rattle.shape.proofs.Shaped.{shaped-is}
-use Rattle.facts.proofs.Facts.{found-in, unit-g, pool-3}
-use Rattle.rules.specs.Turn.{Turn, turn, refuse, span, unitOf}
-use Rattle.rules.specs.Span.{heldOf, heldIn, shownTurn, queriedTurn, queryTurn}
-use Rattle.rules.specs.Release.{freeTurn, releasedTurn, givenBackTurn, releaseTurn}
-use Rattle.rules.specs.Shrink.{cutTurn, unitsTurn, shrunkTurn, cutDownTurn, shrinkTurn}
+use Rattle.shape_facts.proofs.Facts.{found-in, unit-g, pool-3}
+use Rattle.machine.specs.Turn.{Turn, turn, refuse, span, unitOf}
+use Rattle.machine.specs.Span.{heldOf, heldIn, shownTurn, queriedTurn, queryTurn}
+use Rattle.machine.specs.Release.{freeTurn, releasedTurn, givenBackTurn, releaseTurn}
+use Rattle.machine.specs.Shrink.{cutTurn, unitsTurn, shrunkTurn, cutDownTurn, shrinkTurn}
 use Rattle.ledger.specs.Ledger.{In}
 use Rattle.ledger.specs.Agrees.{within, Sound}
 use Rattle.ledger.proofs.View.{within-range}

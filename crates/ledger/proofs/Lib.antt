@@ -1,3 +1,12 @@
+pub mod Pieces
+pub mod Paints
+pub mod Marking
+pub mod Pieced
+pub mod Lies
+pub mod Sound
+pub mod Slots
+pub mod Stands
+pub mod Back
 pub mod View
 pub mod Table
 pub mod Calls

@@ -15,10 +15,10 @@ use Rattle.block.specs.declared.Block.{Block}
 use Rattle.state.specs.declared.Span.{Span}
 use Rattle.state.specs.declared.Held.{Held}
 use Rattle.state.specs.declared.Held.the-variants.{NoSpan, NoStop, Units}
-use Rattle.rules.specs.Span.{heldAt, heldOf}
-use Rattle.paint.specs.Paint.{In as InPieces}
-use Rattle.paint.proofs.Pieces.{in-units}
-use Rattle.paint.proofs.Stands.{Stands as StandsAt, stands}
+use Rattle.machine.specs.Span.{heldAt, heldOf}
+use Rattle.ledger.specs.Paint.{In as InPieces}
+use Rattle.ledger.proofs.Pieces.{in-units}
+use Rattle.ledger.proofs.Stands.{Stands as StandsAt, stands}
 use Rattle.ledger.specs.Ledger.{In}
 use Rattle.ledger.specs.Agrees.{within, viewOf, at, Agrees}
 use Rattle.ledger.proofs.View.{in-unit, in-view, view-in}

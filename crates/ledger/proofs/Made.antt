@@ -8,7 +8,7 @@ use lib.ListN.{length, set, length-set}
 use lib.Seq.{getD-set-same, getD-set-other}
 use Rattle.numbers.specs.Units.{unitsOf}
 use Rattle.bits.specs.Bits.{filled}
-use Rattle.bits.proofs.Fill.{length-filled}
+use Rattle.bits.proofs.Filled.{length-filled}
 use Rattle.slots.specs.Slots.{slotOf, fillSlot}
 use Rattle.slots.proofs.Laws.{slot-own, slot-other}
 use Rattle.block.specs.declared.Block.{Block}
@@ -21,21 +21,21 @@ use Rattle.state.specs.Table.{zeroBlock, blockAt, poolAt}
 use Rattle.state.specs.Change.{inserted}
 use Rattle.shape.specs.Shaped.{Shaped}
 use Rattle.shape.proofs.Shaped.{shaped-is}
-use Rattle.facts.proofs.Facts.{unit-g}
-use Rattle.facts.proofs.Room.{slot-is}
-use Rattle.rules.specs.Turn.{Turn, span, unitOf, clearSlot}
-use Rattle.rules.specs.Alloc.{makeTurn}
-use Rattle.facts.specs.Ready.{Makeable}
-use Rattle.facts.proofs.Made.{length-cleared}
-use Rattle.facts.proofs.Pool.{new-ready}
-use Rattle.facts.proofs.New.{makeable}
-use Rattle.paint.specs.Paint.{Piece, piece, Sound as SoundBlock}
-use Rattle.paint.proofs.Sound.{fresh-sound}
-use Rattle.paint.proofs.Lies.{Lies, marked-lies}
-use Rattle.closed.specs.Sized.{Sized}
-use Rattle.closed.proofs.Cases.{Places, newSize}
-use Rattle.closed.proofs.After.{inserted-new, inserted-pool}
-use Rattle.closed.proofs.Make.{make-good}
+use Rattle.shape_facts.proofs.Facts.{unit-g}
+use Rattle.shape_facts.proofs.Room.{slot-is}
+use Rattle.machine.specs.Turn.{Turn, span, unitOf, clearSlot}
+use Rattle.machine.specs.Alloc.{makeTurn}
+use Rattle.shape_facts.specs.Ready.{Makeable}
+use Rattle.shape_facts.proofs.Made.{length-cleared}
+use Rattle.shape_facts.proofs.Pool.{new-ready}
+use Rattle.shape_facts.proofs.New.{makeable}
+use Rattle.ledger.specs.Paint.{Piece, piece, Sound as SoundBlock}
+use Rattle.ledger.proofs.Sound.{fresh-sound}
+use Rattle.ledger.proofs.Lies.{Lies, marked-lies}
+use Rattle.shape_kept.specs.Sized.{Sized}
+use Rattle.shape_kept.proofs.Cases.{Places, newSize}
+use Rattle.shape_kept.proofs.After.{inserted-new, inserted-pool}
+use Rattle.shape_kept.proofs.Make.{make-good}
 use Rattle.ledger.specs.Ledger.{enter}
 use Rattle.ledger.specs.Agrees.{viewOf, Agrees}
 use Rattle.ledger.proofs.View.{in-unit, view-new, view-other}

@@ -12,14 +12,14 @@ use Rattle.state.specs.declared.Span.{Span}
 use Rattle.state.specs.declared.Answer.the-variants.{Created}
 use Rattle.state.specs.declared.Refusal.the-variants.{InvalidArgument}
 use Rattle.state.specs.Table.{zeroState}
-use Rattle.rules.specs.Turn.{Turn, refuse}
-use Rattle.rules.specs.Create.{Asked, slotsOf, grantable, granted, createTurn}
-use Rattle.rules.specs.Machine.{Call, step}
-use Rattle.closed.specs.Sized.{Sized}
-use Rattle.closed.proofs.Sized.{sized-kept}
-use Rattle.closed.proofs.Head.{good-same}
-use Rattle.closed.proofs.Words.{created-long}
-use Rattle.closed.proofs.Empty.{created-good}
+use Rattle.machine.specs.Turn.{Turn, refuse}
+use Rattle.machine.specs.Create.{Asked, slotsOf, grantable, granted, createTurn}
+use Rattle.machine.specs.Machine.{Call, step}
+use Rattle.shape_kept.specs.Sized.{Sized}
+use Rattle.shape_kept.proofs.Sized.{sized-kept}
+use Rattle.shape_kept.proofs.Head.{good-same}
+use Rattle.shape_kept.proofs.Words.{created-long}
+use Rattle.shape_kept.proofs.Empty.{created-good}
 use Rattle.ledger.specs.Ledger.{enter}
 use Rattle.ledger.specs.Agrees.{Sound}
 use Rattle.ledger.specs.Reached.{Reached, created, called}

@@ -20,18 +20,18 @@ use Rattle.state.specs.declared.Answer.{Answer}
 use Rattle.state.specs.declared.Answer.the-variants.{Released, Shrunk}
 use Rattle.state.specs.Table.{blockAt, poolAt, sum}
 use Rattle.state.specs.Change.{past, removed}
-use Rattle.rules.specs.Turn.{Turn, turn, span, putPool, withLive, withCounts, unitOf, clearSlot}
-use Rattle.rules.specs.Release.{lessUsed, freeTurn}
-use Rattle.rules.specs.Shrink.{cutTurn}
-use Rattle.paint.specs.Paint.{Piece, piece, held, ended, units, In as InPieces, strike as strikePiece, Sound as SoundBlock}
-use Rattle.paint.proofs.Pieces.{no-units}
-use Rattle.paint.proofs.Paints.{struck-out}
-use Rattle.paint.proofs.Lies.{numbers-lie, released-lies}
-use Rattle.closed.specs.Sized.{Sized}
-use Rattle.closed.proofs.Sums.{past-low}
-use Rattle.closed.proofs.After.{removed-block}
-use Rattle.closed.proofs.Sized.{sized-less, sized-live}
-use Rattle.closed.proofs.Words.{length-fill-slot}
+use Rattle.machine.specs.Turn.{Turn, turn, span, putPool, withLive, withCounts, unitOf, clearSlot}
+use Rattle.machine.specs.Release.{lessUsed, freeTurn}
+use Rattle.machine.specs.Shrink.{cutTurn}
+use Rattle.ledger.specs.Paint.{Piece, piece, held, ended, units, In as InPieces, strike as strikePiece, Sound as SoundBlock}
+use Rattle.ledger.proofs.Pieces.{no-units}
+use Rattle.ledger.proofs.Paints.{struck-out}
+use Rattle.ledger.proofs.Lies.{numbers-lie, released-lies}
+use Rattle.shape_kept.specs.Sized.{Sized}
+use Rattle.shape_kept.proofs.Sums.{past-low}
+use Rattle.shape_kept.proofs.After.{removed-block}
+use Rattle.shape_kept.proofs.Sized.{sized-less, sized-live}
+use Rattle.shape_kept.proofs.Words.{length-fill-slot}
 use Rattle.ledger.specs.Ledger.{In, strike, enter}
 use Rattle.ledger.specs.Agrees.{within, viewOf, at, Agrees, Sound}
 use Rattle.ledger.proofs.View.{strike-head, strike-tail, in-unit, in-view, view-new, view-other, view-strike, view-strike-other}

@@ -25,10 +25,10 @@ use Rattle.state.specs.declared.Searched.{Searched}
 use Rattle.state.specs.Table.{zeroBlock, blockAt}
 use Rattle.state.specs.Shape.{inPool}
 use Rattle.state.specs.Change.{withTable}
-use Rattle.rules.specs.Turn.{putBlock}
-use Rattle.rules.specs.Alloc.{after, searchFrom, searchPool}
-use Rattle.paint.proofs.Sound.{sound-windowed}
-use Rattle.paint.proofs.Lies.{missed-lies}
+use Rattle.machine.specs.Turn.{putBlock}
+use Rattle.machine.specs.Alloc.{after, searchFrom, searchPool}
+use Rattle.ledger.proofs.Sound.{sound-windowed}
+use Rattle.ledger.proofs.Lies.{missed-lies}
 use Rattle.ledger.specs.Agrees.{viewOf, Agrees}
 use Rattle.ledger.specs.First.{NoPlace, LowestPlace, FirstFrom}
 use Rattle.ledger.proofs.Table.{Stands, set-stands}

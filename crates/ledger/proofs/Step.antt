@@ -24,23 +24,23 @@ use Rattle.state.specs.declared.Refusal.the-variants.{InvalidArgument, InvalidS
 use Rattle.state.specs.declared.Answer.the-variants.{Shown, Shrunk, Reset, Refused}
 use Rattle.state.specs.Table.{blockAt, sum}
 use Rattle.shape.specs.Shaped.{Shaped}
-use Rattle.facts.proofs.Search.{Left, Place}
-use Rattle.facts.proofs.Cleared.{slots-room}
-use Rattle.facts.proofs.Pool.{whole, units-kept}
-use Rattle.rules.specs.Turn.{turn, refuse, span}
-use Rattle.rules.specs.Create.{Asked, slotsOf, granted}
-use Rattle.rules.specs.Alloc.{allocTurn, markTurn, makeTurn}
-use Rattle.rules.specs.Span.{queryTurn}
-use Rattle.rules.specs.Release.{releaseTurn}
-use Rattle.rules.specs.Shrink.{shrinkTurn}
-use Rattle.rules.specs.Reset.{emptyTable, clearBlocks, oldest, keep, kept, resetTurn}
-use Rattle.rules.specs.Machine.{Call, create, alloc, release, shrink, query, softReset, hardReset, step}
-use Rattle.closed.specs.Sized.{Sized}
-use Rattle.closed.proofs.Cases.{Seeks, Places, poolFor, unitsFor, searchFor, newSize, create-cases, reset-cases}
-use Rattle.closed.proofs.Sized.{sized-search}
-use Rattle.closed.proofs.Request.{seeks-some, seeks-ready, seeks-left}
-use Rattle.closed.proofs.Soft.{kept-from}
-use Rattle.closed.proofs.Closed.{closed}
+use Rattle.shape_facts.proofs.Search.{Left, Place}
+use Rattle.shape_facts.proofs.Cleared.{slots-room}
+use Rattle.shape_facts.proofs.Pool.{whole, units-kept}
+use Rattle.machine.specs.Turn.{turn, refuse, span}
+use Rattle.machine.specs.Create.{Asked, slotsOf, granted}
+use Rattle.machine.specs.Alloc.{allocTurn, markTurn, makeTurn}
+use Rattle.machine.specs.Span.{queryTurn}
+use Rattle.machine.specs.Release.{releaseTurn}
+use Rattle.machine.specs.Shrink.{shrinkTurn}
+use Rattle.machine.specs.Reset.{emptyTable, clearBlocks, oldest, keep, kept, resetTurn}
+use Rattle.machine.specs.Machine.{Call, create, alloc, release, shrink, query, softReset, hardReset, step}
+use Rattle.shape_kept.specs.Sized.{Sized}
+use Rattle.shape_kept.proofs.Cases.{Seeks, Places, poolFor, unitsFor, searchFor, newSize, create-cases, reset-cases}
+use Rattle.shape_kept.proofs.Sized.{sized-search}
+use Rattle.shape_kept.proofs.Request.{seeks-some, seeks-ready, seeks-left}
+use Rattle.shape_kept.proofs.Soft.{kept-from}
+use Rattle.shape_kept.proofs.Closed.{closed}
 use Rattle.ledger.specs.Ledger.{enter}
 use Rattle.ledger.specs.Agrees.{at, Clear, Agrees, Sound}
 use Rattle.ledger.specs.First.{FirstFrom}

@@ -16,8 +16,8 @@ use Rattle.state.specs.declared.State.{State}
 use Rattle.state.specs.declared.Span.{Span}
 use Rattle.state.specs.Table.{zeroBlock, blockAt}
 use Rattle.shape.specs.Shaped.{Shaped}
-use Rattle.paint.specs.Paint.{Piece, Sound as SoundBlock}
-use Rattle.paint.proofs.Lies.{Lies as LiesAt}
+use Rattle.ledger.specs.Paint.{Piece, Sound as SoundBlock}
+use Rattle.ledger.proofs.Lies.{Lies as LiesAt}
 use Rattle.ledger.specs.Ledger.{In, strike}
 use Rattle.ledger.specs.Agrees.{within, viewOf, Lies, at, Homes, Clear, Agrees}
 use Rattle.ledger.proofs.View.{within-false, within-range, lies-in, Aligned, view-same, lies-same, strike-head, strike-tail}

@@ -9,7 +9,7 @@ use lib.ListN.{length, take, drop, replicate, length-take, List·getD-eq-default
 use lib.Seq.{getD-take, getD-drop}
 use Rattle.numbers.proofs.Split.{by-le}
 use Rattle.bits.specs.Bits.{Words, filled}
-use Rattle.bits.proofs.Fill.{words-filled, words-zeros}
+use Rattle.bits.proofs.Filled.{words-filled, words-zeros}
 use Rattle.slots.specs.Slots.{slotOf, putSlot, fillSlot}
 use Rattle.slots.proofs.Laws.{words-slot}
 use Rattle.numbers.specs.Units.{unitsOf}
@@ -17,13 +17,13 @@ use Rattle.block.specs.Marking.{markReleased, fresh}
 use Rattle.state.specs.declared.State.{State}
 use Rattle.state.specs.Table.{blockAt, poolAt}
 use Rattle.state.specs.Change.{inserted}
-use Rattle.rules.specs.Turn.{Turn, withLive, clearSlot}
-use Rattle.rules.specs.Create.{Asked, slotsOf, granted}
-use Rattle.rules.specs.Alloc.{markTurn, makeTurn}
-use Rattle.rules.specs.Release.{lessUsed, freeTurn, releaseTurn}
-use Rattle.rules.specs.Reset.{clearBlocks}
-use Rattle.rules.specs.Machine.{Call, create, alloc, release, shrink, query, softReset, hardReset, step}
-use Rattle.closed.proofs.Cases.{poolFor, unitsFor, searchFor, newSize, settle-cases, create-cases, query-cases, release-cases, shrink-cases, reset-cases, alloc-cases}
+use Rattle.machine.specs.Turn.{Turn, withLive, clearSlot}
+use Rattle.machine.specs.Create.{Asked, slotsOf, granted}
+use Rattle.machine.specs.Alloc.{markTurn, makeTurn}
+use Rattle.machine.specs.Release.{lessUsed, freeTurn, releaseTurn}
+use Rattle.machine.specs.Reset.{clearBlocks}
+use Rattle.machine.specs.Machine.{Call, create, alloc, release, shrink, query, softReset, hardReset, step}
+use Rattle.shape_kept.proofs.Cases.{poolFor, unitsFor, searchFor, newSize, settle-cases, create-cases, query-cases, release-cases, shrink-cases, reset-cases, alloc-cases}
 
 -- ---- lists of words
 words-append : (xs ys : List ℕ) → Words xs → Words ys → Words (xs ++ ys)

@@ -14,7 +14,7 @@ use Rattle.state.specs.declared.State.{State}
 use Rattle.state.specs.declared.Span.{Span}
 use Rattle.state.specs.Table.{zeroBlock}
 use Rattle.state.specs.Shape.{goodShape}
-use Rattle.paint.specs.Paint.{Piece, piece, Sound as SoundBlock}
+use Rattle.ledger.specs.Paint.{Piece, piece, Sound as SoundBlock}
 
 -- ---- the ledger seen from one block
 -- the address is one of the size bytes from base on

@@ -1,3 +1,4 @@
+pub mod Paint
 pub mod Ledger
 pub mod Agrees
 pub mod First

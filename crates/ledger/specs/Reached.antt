@@ -6,8 +6,8 @@ use Rattle.bits.specs.Bits.{Words}
 use Rattle.state.specs.declared.State.{State}
 use Rattle.state.specs.declared.Span.{Span}
 use Rattle.state.specs.declared.Answer.the-variants.{Created}
-use Rattle.rules.specs.Create.{Asked, createTurn}
-use Rattle.rules.specs.Machine.{Call, step}
+use Rattle.machine.specs.Create.{Asked, createTurn}
+use Rattle.machine.specs.Machine.{Call, step}
 use Rattle.ledger.specs.Ledger.{enter}
 
 -- any call, also one that is refused and a later creation, is handed what the last left

@@ -4,8 +4,8 @@ use native.Mathlib.Omega.{arith}
 use lib.ListN.{length, length-append}
 use Rattle.state.specs.declared.Answer.{Answer}
 use Rattle.state.specs.declared.Answer.the-variants.{Created, Granted, Released, Shrunk, Shown, Reset, Refused}
-use Rattle.rules.specs.Turn.{number}
-use Rattle.put.proofs.Digits.{most}
+use Rattle.machine.specs.Turn.{number}
+use Rattle.text.proofs.Digits.{most}
 use Rattle.lines.specs.Lines.{answerLine}
 
 pub answer-most : (a : Answer) → length (answerLine a) ≤ 80

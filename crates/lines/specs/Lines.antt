@@ -3,7 +3,7 @@ use Prim.Native.Nat.{ℕ}
 use mathlib.Core.List.{List, [], _∷_}
 use Rattle.state.specs.declared.Answer.{Answer}
 use Rattle.state.specs.declared.Answer.the-variants.{Created, Granted, Released, Shrunk, Shown, Reset, Refused}
-use Rattle.rules.specs.Turn.{number}
+use Rattle.machine.specs.Turn.{number}
 use Rattle.text.specs.Line.{line}
 
 -- ---- the answer words, as spelled in document 01

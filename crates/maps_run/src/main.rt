@@ -62,10 +62,10 @@ fn range(p: usize, index: usize, count: usize, value: bool) {
             place(p, index);
             number(count as u64);
             if value {
-                fill::bit_vector_fill(&mut map, index, count);
+                bits::fill::bit_vector_fill(&mut map, index, count);
                 words(&map);
             } else {
-                fill::bit_vector_clear(&mut map, index, count);
+                bits::fill::bit_vector_clear(&mut map, index, count);
                 words(&map);
             }
         }
@@ -138,7 +138,7 @@ fn put(p: usize, index: usize, value: bool) {
 fn index_of(p: usize, index: usize, value: bool) {
     if index < 96 {
         let map = pattern(p);
-        number(index::bit_vector_index_of(&map, index, value) as u64);
+        number(bits::index::bit_vector_index_of(&map, index, value) as u64);
     }
 }
 
@@ -176,10 +176,10 @@ fn change(map: &mut [u32; 6], value: bool, slot: usize, at: usize, n: usize) {
         if at <= 64 {
             if n <= 64 - at {
                 if value {
-                    units::mark(map, slot, 2, at, n);
+                    slots::mark(map, slot, 2, at, n);
                     io::write_all(1, b"mark");
                 } else {
-                    units::unmark(map, slot, 2, at, n);
+                    slots::unmark(map, slot, 2, at, n);
                     io::write_all(1, b"unmark");
                 }
                 number(slot as u64);
@@ -296,7 +296,7 @@ fn search(p: usize, start: usize, end: usize, n: usize) {
                 window(p, start, end);
                 number(n as u64);
                 let map = used(p);
-                found(window::search_window(&map, start, end, n));
+                found(runs::window::search_window(&map, start, end, n));
             }
         }
     }
@@ -321,7 +321,7 @@ fn walk(words: &[u32], start: usize, end: usize) {
                     if 3 < at {
                         return;
                     }
-                    let got = held::step(words, at, word, end, 97);
+                    let got = runs::walker::step(words, at, word, end, 97);
                     let runs::Next::Run(s, e, next) = got else {
                         return;
                     };

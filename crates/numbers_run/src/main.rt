@@ -83,7 +83,7 @@ fn units_of(size: u64) {
 fn granularity(asked: u32) {
     io::write_all(1, b"granularity");
     number(asked as u64);
-    number(limits::granularity_in_force(asked));
+    number(sizes::limits::granularity_in_force(asked));
     line_end();
 }
 
@@ -91,7 +91,7 @@ fn granularity(asked: u32) {
 fn base(asked: u32) {
     io::write_all(1, b"base");
     number(asked as u64);
-    number(limits::base_size_in_force(asked));
+    number(sizes::limits::base_size_in_force(asked));
     line_end();
 }
 

@@ -5,13 +5,13 @@ use state::Held;
 use state::Refusal;
 use state::State;
 ghost use mathlib.Core.Path.{_≡_};
-ghost use Rattle.rules.specs.Span.{queryTurn};
+ghost use Rattle.machine.specs.Span.{queryTurn};
 
 // The span that starts at an address. Nothing changes.
 pub fn query(s: State, used: &[u32], stop: &[u32], address: u64) -> Answer
     ensures { λ r. ⌜ r ≡ queryTurn s (now (used .entry)) (now (stop .entry)) address .answer ⌝ }
 {
-    if !whole::shape_ok(s, used.len(), stop.len()) {
+    if !shape::shape_ok(s, used.len(), stop.len()) {
         return Answer::Refused(Refusal::BadShape);
     }
     let found = table::lookup_block(s, address);
@@ -22,6 +22,6 @@ pub fn query(s: State, used: &[u32], stop: &[u32], address: u64) -> Answer
     match held {
         Held::NoSpan => Answer::Refused(Refusal::InvalidArgument),
         Held::NoStop => Answer::Refused(Refusal::Damaged),
-        Held::Units(i, e) => Answer::Shown(entry::span_at(s, j, address, e - i)),
+        Held::Units(i, e) => Answer::Shown(spans::span_at(s, j, address, e - i)),
     }
 }

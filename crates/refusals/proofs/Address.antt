@@ -27,11 +27,11 @@ use Rattle.state.specs.Table.{blockAt, poolAt}
 use Rattle.state.specs.Shape.{goodShape}
 use Rattle.state.specs.Find.{lookup}
 use Rattle.state.specs.Change.{removed}
-use Rattle.rules.specs.Turn.{Turn, turn, refuse, span, unitOf, withLive, withCounts, putPool, clearSlot}
-use Rattle.rules.specs.Span.{heldIn, shownTurn, queriedTurn, queryTurn}
-use Rattle.rules.specs.Release.{lessUsed, freeTurn, releasedTurn, givenBackTurn, releaseTurn}
-use Rattle.rules.specs.Shrink.{cutTurn, unitsTurn, shrunkTurn, cutDownTurn, shrinkTurn}
-use Rattle.rules.specs.Machine.{Call, release, shrink, query}
+use Rattle.machine.specs.Turn.{Turn, turn, refuse, span, unitOf, withLive, withCounts, putPool, clearSlot}
+use Rattle.machine.specs.Span.{heldIn, shownTurn, queriedTurn, queryTurn}
+use Rattle.machine.specs.Release.{lessUsed, freeTurn, releasedTurn, givenBackTurn, releaseTurn}
+use Rattle.machine.specs.Shrink.{cutTurn, unitsTurn, shrunkTurn, cutDownTurn, shrinkTurn}
+use Rattle.machine.specs.Machine.{Call, release, shrink, query}
 use Rattle.refusals.specs.When.{Good, Bad, InNone, InBlock, unitAt, IsStart, HasUnits, When, Told}
 use Rattle.refusals.proofs.Look.{Looks, looks, at-none, not-zero, at-block, Seen, seen, held-none, held-endless, held-units, unit-some}
 

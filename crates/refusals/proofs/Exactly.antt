@@ -12,10 +12,10 @@ use Rattle.state.specs.declared.Refusal.the-variants.{InvalidArgument, TooLarge
 use Rattle.state.specs.declared.Answer.the-variants.{Reset, Refused}
 use Rattle.state.specs.Table.{zeroState}
 use Rattle.state.specs.Shape.{goodShape}
-use Rattle.rules.specs.Turn.{Turn, turn, refuse}
-use Rattle.rules.specs.Create.{Asked, slotsOf, grantable, granted, createTurn}
-use Rattle.rules.specs.Reset.{emptyTable, clearBlocks, kept, resetTurn}
-use Rattle.rules.specs.Machine.{Call, create, alloc, release, shrink, query, softReset, hardReset, orBefore, step}
+use Rattle.machine.specs.Turn.{Turn, turn, refuse}
+use Rattle.machine.specs.Create.{Asked, slotsOf, grantable, granted, createTurn}
+use Rattle.machine.specs.Reset.{emptyTable, clearBlocks, kept, resetTurn}
+use Rattle.machine.specs.Machine.{Call, create, alloc, release, shrink, query, softReset, hardReset, orBefore, step}
 use Rattle.refusals.specs.When.{Bad, When, Told}
 use Rattle.refusals.proofs.Address.{bad-first, bad-answer, query-told, query-when, release-told, release-when, shrink-told, shrink-when}
 use Rattle.refusals.proofs.Size.{alloc-told, alloc-when}

@@ -22,9 +22,9 @@ use Rattle.state.proofs.Tests.{and-left, and-right}
 use Rattle.state.proofs.Find.{Least, least-is, least-of}
 use Rattle.shape.specs.Shaped.{Shaped}
 use Rattle.shape.proofs.Shaped.{shaped-is}
-use Rattle.rules.specs.Turn.{unitOf}
-use Rattle.rules.specs.Span.{starts, upTo, heldAt, heldIn}
-use Rattle.facts.proofs.Facts.{pool-3, unit-g}
+use Rattle.machine.specs.Turn.{unitOf}
+use Rattle.machine.specs.Span.{starts, upTo, heldAt, heldIn}
+use Rattle.shape_facts.proofs.Facts.{pool-3, unit-g}
 use Rattle.refusals.specs.When.{Good, InNone, InBlock, unitAt, usedOf, stopOf, IsStart, NoStop, HasUnits}
 
 module _ (s : State) (u t : List ℕ) where

@@ -19,8 +19,8 @@ use Rattle.state.specs.declared.Hit.the-variants.{At, Nowhere}
 use Rattle.state.specs.declared.Searched.{Searched}
 use Rattle.state.specs.Table.{zeroBlock, blockAt}
 use Rattle.state.specs.Shape.{inPool}
-use Rattle.rules.specs.Turn.{putBlock}
-use Rattle.rules.specs.Alloc.{after, searchFrom, searchPool}
+use Rattle.machine.specs.Turn.{putBlock}
+use Rattle.machine.specs.Alloc.{after, searchFrom, searchPool}
 
 -- ---- which block is found
 module _ (u : List ℕ) (p n : ℕ) where

@@ -33,13 +33,13 @@ use Rattle.state.specs.Find.{least, slotFree, lowestSlot, placeFree, placed, lo
 use Rattle.state.proofs.Find.{Least, least-of, least-only}
 use Rattle.shape.specs.Shaped.{Shaped}
 use Rattle.shape.proofs.Shaped.{shaped-is}
-use Rattle.rules.specs.Turn.{Turn, refuse}
-use Rattle.rules.specs.Alloc.{searchPool, makeTurn, placeTurn, newTurn, searchedTurn, poolTurn, sizeTurn, allocTurn}
-use Rattle.rules.specs.Machine.{alloc}
-use Rattle.facts.proofs.Facts.{unit-g}
-use Rattle.facts.proofs.Search.{Left, search-left}
-use Rattle.facts.proofs.Searched.{OtherBlocks, search-other}
-use Rattle.facts.proofs.Alike.{slot-alike, place-alike, newest-alike}
+use Rattle.machine.specs.Turn.{Turn, refuse}
+use Rattle.machine.specs.Alloc.{searchPool, makeTurn, placeTurn, newTurn, searchedTurn, poolTurn, sizeTurn, allocTurn}
+use Rattle.machine.specs.Machine.{alloc}
+use Rattle.shape_facts.proofs.Facts.{unit-g}
+use Rattle.shape_facts.proofs.Search.{Left, search-left}
+use Rattle.shape_facts.proofs.Searched.{OtherBlocks, search-other}
+use Rattle.shape_facts.proofs.Alike.{slot-alike, place-alike, newest-alike}
 use Rattle.refusals.specs.When.{Good, Bad, poolFor, unitsFor, NoneFound, newSize, NoRoom, NoSlot, PastSlot, When, Told}
 use Rattle.refusals.proofs.Search.{Hits, search-hits}
 use Rattle.refusals.proofs.Address.{bad-first, bad-answer, good-turn}

@@ -21,10 +21,10 @@ use Rattle.state.specs.declared.Refusal.the-variants.{InvalidArgument, TooLarge
 use Rattle.state.specs.Table.{blockAt, poolAt}
 use Rattle.state.specs.Shape.{goodShape, inPool}
 use Rattle.state.specs.Find.{holds, slotFree, placeFree, newestSize}
-use Rattle.rules.specs.Turn.{unitOf}
-use Rattle.rules.specs.Create.{grantable}
-use Rattle.rules.specs.Span.{starts}
-use Rattle.rules.specs.Machine.{Call, create, alloc, release, shrink, query, softReset, hardReset}
+use Rattle.machine.specs.Turn.{unitOf}
+use Rattle.machine.specs.Create.{grantable}
+use Rattle.machine.specs.Span.{starts}
+use Rattle.machine.specs.Machine.{Call, create, alloc, release, shrink, query, softReset, hardReset}
 
 -- ---- the words of the table
 module _ (s : State) (u t : List ℕ) where

@@ -8,8 +8,8 @@ use Rattle.state.specs.declared.State.{State}
 use Rattle.state.specs.declared.Held.the-variants.{Units}
 use Rattle.state.specs.declared.Refusal.the-variants.{Damaged}
 use Rattle.state.specs.Table.{blockAt}
-use Rattle.rules.specs.Turn.{refuse}
-use Rattle.rules.specs.Release.{freeTurn, releasedTurn}
+use Rattle.machine.specs.Turn.{refuse}
+use Rattle.machine.specs.Release.{freeTurn, releasedTurn}
 
 module _ (s : State) (u t : List ℕ) (a j i e : ℕ) where
   pub released-damaged : ltb (blockAt s j .used) (e - i) || eqb (s .live) 0 ≡ true → refuse Damaged s u t ≡ releasedTurn s u t a j (Units i e)

@@ -14,8 +14,8 @@ ghost use Rattle.state.specs.declared.Answer.{Answer};
 ghost use Rattle.state.specs.declared.Held.the-variants.{Units};
 ghost use Rattle.state.specs.Table.{blockAt};
 ghost use Rattle.shape.specs.Shaped.{Shaped};
-ghost use Rattle.rules.specs.Turn.{turn, withLive};
-ghost use Rattle.rules.specs.Release.{lessUsed, settle, releasedTurn, releaseTurn};
+ghost use Rattle.machine.specs.Turn.{turn, withLive};
+ghost use Rattle.machine.specs.Release.{lessUsed, settle, releasedTurn, releaseTurn};
 
 // The span of block `j` from unit `i` up to `e` goes.
 fn free(s: State, used: &mut [u32], stop: &mut [u32], j: usize, i: u32, e: u32) -> State
@@ -26,11 +26,11 @@ fn free(s: State, used: &mut [u32], stop: &mut [u32], j: usize, i: u32, e: u32) 
         (markReleased (s .w) (blockAt s j) i e (now (used .entry)) (now (stop .entry)) .used)
         (markReleased (s .w) (blockAt s j) i e (now (used .entry)) (now (stop .entry)) .stop) j) ⌝ }
 {
-    let b = entry::block_at(s, j);
-    let less = mark::mark_released_area(b, used, stop, s.w, i, e);
-    let mut r = settle::less_used(s, j, less, e - i);
+    let b = state::block_at(s, j);
+    let less = block::mark::mark_released_area(b, used, stop, s.w, i, e);
+    let mut r = release_settle::less_used(s, j, less, e - i);
     r.live = s.live - 1;
-    settle::settle(r, used, stop, j)
+    release_settle::settle(r, used, stop, j)
 }
 
 // The same, if the counts allow it: a span longer than its block's used count, and one that is not counted, show damage.
@@ -47,11 +47,11 @@ fn give_back(
     ensures { λ r. ⌜ turn (r .answer) (r .state) (now (used .exit)) (now (stop .exit))
         ≡ releasedTurn s (now (used .entry)) (now (stop .entry)) address j (Units i e) ⌝ }
 {
-    let b = entry::block_at(s, j);
+    let b = state::block_at(s, j);
     if b.used < e - i || s.live == 0 {
         return state::refused(s, Refusal::Damaged);
     }
-    let span = entry::span_at(s, j, address, e - i);
+    let span = spans::span_at(s, j, address, e - i);
     let state = free(s, used, stop, j, i, e);
     let answer = Answer::Released(span);
     Outcome { answer, state }
@@ -61,7 +61,7 @@ fn give_back(
 pub fn release(s: State, used: &mut [u32], stop: &mut [u32], address: u64) -> Outcome
     ensures { λ r. ⌜ turn (r .answer) (r .state) (now (used .exit)) (now (stop .exit)) ≡ releaseTurn s (now (used .entry)) (now (stop .entry)) address ⌝ }
 {
-    if !whole::shape_ok(s, used.len(), stop.len()) {
+    if !shape::shape_ok(s, used.len(), stop.len()) {
         return state::refused(s, Refusal::BadShape);
     }
     if address == 0 {

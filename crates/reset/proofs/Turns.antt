@@ -12,11 +12,11 @@ use Rattle.state.specs.declared.Answer.the-variants.{Reset}
 use Rattle.state.specs.Shape.{goodShape}
 use Rattle.state.specs.Table.{blockAt}
 use Rattle.shape.specs.Shaped.{Shaped}
-use Rattle.facts.proofs.Facts.{count-64, slot-room, pool-3}
-use Rattle.rules.specs.Turn.{turn, refuse}
-use Rattle.rules.specs.Reset.{emptyTable, clearBlocks, kept, resetTurn}
-use Rattle.kept.specs.Ready.{Keepable}
-use Rattle.reset.specs.Ready.{Clearable}
+use Rattle.shape_facts.proofs.Facts.{count-64, slot-room, pool-3}
+use Rattle.machine.specs.Turn.{turn, refuse}
+use Rattle.machine.specs.Reset.{emptyTable, clearBlocks, kept, resetTurn}
+use Rattle.reset.specs.Keepable.{Keepable}
+use Rattle.reset.specs.Clearable.{Clearable}
 
 module _ (s : State) (u t : ℕ) (f : Shaped s u t) where
   pub clearable-used : Clearable s u

@@ -1,4 +1,6 @@
 // The calls soft reset and hard reset.
+pub mod keep;
+
 use state::Answer;
 use state::Outcome;
 use state::Refusal;
@@ -6,9 +8,9 @@ use state::State;
 ghost use mathlib.Core.Path.{_≡_};
 ghost use mathlib.Core.Bool.{true, false};
 ghost use lib.ListN.{length};
-ghost use Rattle.rules.specs.Turn.{turn};
-ghost use Rattle.rules.specs.Reset.{clearBlocks, resetTurn};
-ghost use Rattle.reset.specs.Ready.{Clearable};
+ghost use Rattle.machine.specs.Turn.{turn};
+ghost use Rattle.machine.specs.Reset.{clearBlocks, resetTurn};
+ghost use Rattle.reset.specs.Clearable.{Clearable};
 
 // The slots of all standing blocks cleared in one map. No word of another slot is written.
 fn clear_blocks(s: State, words: &mut [u32])
@@ -18,7 +20,7 @@ fn clear_blocks(s: State, words: &mut [u32])
     let mut i: usize = 0;
     while i < s.count {
         let b = s.blocks[i];
-        units::clear_slot(words, b.slot, s.w);
+        slots::clear_slot(words, b.slot, s.w);
         i += 1;
     }
 }
@@ -27,12 +29,12 @@ fn clear_blocks(s: State, words: &mut [u32])
 pub fn hard_reset(s: State, used: &mut [u32], stop: &mut [u32]) -> Outcome
     ensures { λ r. ⌜ turn (r .answer) (r .state) (now (used .exit)) (now (stop .exit)) ≡ resetTurn s (now (used .entry)) (now (stop .entry)) true ⌝ }
 {
-    if !whole::shape_ok(s, used.len(), stop.len()) {
+    if !shape::shape_ok(s, used.len(), stop.len()) {
         return state::refused(s, Refusal::BadShape);
     }
     clear_blocks(s, used);
     clear_blocks(s, stop);
-    let state = kept::empty_table(s);
+    let state = keep::empty_table(s);
     let answer = Answer::Reset;
     Outcome { answer, state }
 }
@@ -41,12 +43,12 @@ pub fn hard_reset(s: State, used: &mut [u32], stop: &mut [u32]) -> Outcome
 pub fn soft_reset(s: State, used: &mut [u32], stop: &mut [u32]) -> Outcome
     ensures { λ r. ⌜ turn (r .answer) (r .state) (now (used .exit)) (now (stop .exit)) ≡ resetTurn s (now (used .entry)) (now (stop .entry)) false ⌝ }
 {
-    if !whole::shape_ok(s, used.len(), stop.len()) {
+    if !shape::shape_ok(s, used.len(), stop.len()) {
         return state::refused(s, Refusal::BadShape);
     }
     clear_blocks(s, used);
     clear_blocks(s, stop);
-    let state = kept::soften(s);
+    let state = keep::soften(s);
     let answer = Answer::Reset;
     Outcome { answer, state }
 }

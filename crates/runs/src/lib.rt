@@ -1,5 +1,9 @@
 // A walk over the runs of free units of a used map within a window, the Rust's `BitVectorRangeIterator`: its types and its start. A window is the units from `start` up to `end`, and
 // empty where `end` is not above `start`. Runs are clipped at both ends.
+pub mod ranges;
+pub mod walker;
+pub mod window;
+
 ghost use mathlib.Core.Path.{_≡_};
 ghost use Prim.Native.Nat.{_*_, _^_, _<_, _≤_};
 ghost use lib.ListN.{length};

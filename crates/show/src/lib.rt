@@ -10,7 +10,7 @@ const ROOM: usize = 320;
 
 fn put_word(out: &mut [u8], word: &[u8]) -> usize {
     if word.len() <= out.len() {
-        return put::put_bytes(out, 0, word);
+        return text::put_bytes(out, 0, word);
     }
     0
 }
@@ -18,7 +18,7 @@ fn put_word(out: &mut [u8], word: &[u8]) -> usize {
 fn put_number(out: &mut [u8], at: usize, n: u64) -> usize {
     if at < ROOM - 21 {
         if ROOM <= out.len() {
-            return put::put_number(out, at, n);
+            return text::put_number(out, at, n);
         }
     }
     at
@@ -36,7 +36,7 @@ fn put_numbers(out: &mut [u8], at: usize, numbers: &[u64]) -> usize {
 
 fn put_end(out: &mut [u8], at: usize) -> usize {
     if at < out.len() {
-        return put::put_byte(out, at, b'\n');
+        return text::put_byte(out, at, b'\n');
     }
     at
 }

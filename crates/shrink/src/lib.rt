@@ -1,12 +1,14 @@
 // The call shrink.
+pub mod cut;
+
 use state::Found;
 use state::Held;
 use state::Outcome;
 use state::Refusal;
 use state::State;
 ghost use mathlib.Core.Path.{_≡_};
-ghost use Rattle.rules.specs.Turn.{turn};
-ghost use Rattle.rules.specs.Shrink.{shrinkTurn};
+ghost use Rattle.machine.specs.Turn.{turn};
+ghost use Rattle.machine.specs.Shrink.{shrinkTurn};
 
 // The span that starts at an address keeps the units that `size` bytes take; without a byte it goes.
 pub fn shrink(s: State, used: &mut [u32], stop: &mut [u32], address: u64, size: u64) -> Outcome
@@ -15,7 +17,7 @@ pub fn shrink(s: State, used: &mut [u32], stop: &mut [u32], address: u64, size: 
     if size == 0 {
         return release::release(s, used, stop, address);
     }
-    if !whole::shape_ok(s, used.len(), stop.len()) {
+    if !shape::shape_ok(s, used.len(), stop.len()) {
         return state::refused(s, Refusal::BadShape);
     }
     if address == 0 {
@@ -34,7 +36,7 @@ pub fn shrink(s: State, used: &mut [u32], stop: &mut [u32], address: u64, size: 
             return state::refused(s, Refusal::Damaged);
         }
         Held::Units(i, e) => {
-            let b = entry::block_at(s, j);
+            let b = state::block_at(s, j);
             if b.used < e - i {
                 return state::refused(s, Refusal::Damaged);
             }

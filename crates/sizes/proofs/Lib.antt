@@ -1,6 +1,6 @@
 pub mod Cases
 pub mod Powers
-pub mod Limits
+pub mod InForce
 pub mod Pools
 pub mod Walk
 pub mod Sizes

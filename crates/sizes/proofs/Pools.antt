@@ -15,7 +15,7 @@ use Rattle.numbers.specs.Align.{alignUp}
 use Rattle.numbers.specs.Pick.{pick}
 use Rattle.sizes.specs.Limits.{isGranularity}
 use Rattle.sizes.specs.Pools.{poolOf}
-use Rattle.sizes.proofs.Limits.{granularity-is}
+use Rattle.sizes.proofs.InForce.{granularity-is}
 use Rattle.sizes.proofs.Cases.{picked}
 
 -- rounding up to a power of two changes what is no multiple of it, and nothing else

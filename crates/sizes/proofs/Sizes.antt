@@ -15,7 +15,7 @@ use Rattle.sizes.specs.declared.Rounded.the-variants.{To, Refused}
 use Rattle.sizes.specs.Limits.{isGranularity}
 use Rattle.sizes.specs.Sizes.{accepted, rounded, doubled, idealSize}
 use Rattle.sizes.proofs.Cases.{picked}
-use Rattle.sizes.proofs.Limits.{granularity-is}
+use Rattle.sizes.proofs.InForce.{granularity-is}
 
 -- ---- a request
 

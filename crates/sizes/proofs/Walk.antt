@@ -12,7 +12,7 @@ use Rattle.numbers.specs.Align.{alignUp}
 use Rattle.numbers.specs.Pick.{pick}
 use Rattle.sizes.specs.Limits.{isGranularity}
 use Rattle.sizes.specs.Pools.{poolOf}
-use Rattle.sizes.proofs.Limits.{granularity-is}
+use Rattle.sizes.proofs.InForce.{granularity-is}
 use Rattle.sizes.proofs.Pools.{step-test, poolFrom, pool-first, few}
 
 -- what is left to try, from pool id down, gives the pool

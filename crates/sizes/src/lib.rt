@@ -1,4 +1,6 @@
 // Sizes: a request's rounded size, the pool that it belongs to, and the size of a new block.
+pub mod limits;
+
 ghost use mathlib.Core.Path.{_≡_};
 ghost use mathlib.Core.Bool.{true};
 ghost use mathlib.Core.Logic.{_⊎_};

@@ -11,7 +11,7 @@ use lib.Seq.{length-take-le, take-at, drop-at, getD-take, getD-drop, ext-getD, g
 use borrow.Rule.Slice.PartMut.{put-same}
 use Rattle.numbers.proofs.Split.{le-or-lt}
 use Rattle.bits.specs.Bits.{filled, Words}
-use Rattle.bits.proofs.Fill.{filled-cleared}
+use Rattle.bits.proofs.Filled.{filled-cleared}
 use Rattle.slots.specs.Slots.{slotOf, putSlot}
 
 pub length-slot : (w s : ℕ) (ws : List ℕ) → (s + 1) * w ≤ length ws → length (slotOf w s ws) ≡ w

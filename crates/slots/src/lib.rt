@@ -3,9 +3,9 @@
 ghost use mathlib.Core.Path.{_≡_};
 ghost use Prim.Native.Nat.{_+_, _*_, _^_, _≤_, _<_};
 ghost use mir.Val.{boolByte};
-ghost use lib.ListN.{length};
+ghost use lib.ListN.{length, replicate};
 ghost use Rattle.bits.specs.Bits.{filled};
-ghost use Rattle.slots.specs.Slots.{slotOf, fillSlot};
+ghost use Rattle.slots.specs.Slots.{slotOf, fillSlot, putSlot};
 ghost use Rattle.slots.specs.Back.{GoesBack};
 
 // The part of a slot, to be read.
@@ -35,9 +35,9 @@ fn put(part: &mut [u32], at: usize, n: usize, value: bool)
     ensures { λ _. ⌜ now (part .exit) ≡ filled (now (part .entry)) at n (boolByte value) ⌝ }
 {
     if value {
-        fill::bit_vector_fill(part, at, n);
+        bits::fill::bit_vector_fill(part, at, n);
     } else {
-        fill::bit_vector_clear(part, at, n);
+        bits::fill::bit_vector_clear(part, at, n);
     }
 }
 
@@ -48,4 +48,30 @@ pub fn write(words: &mut [u32], slot: usize, w: usize, at: usize, n: usize, valu
 {
     let part = slot_mut(words, slot, w);
     put(part, at, n, value);
+}
+
+// ---- units of a slot
+
+// Units `at` to `at + n` of a slot set, in the used map or the stop map.
+pub fn mark(words: &mut [u32], slot: usize, w: usize, at: usize, n: usize)
+    requires { ⌜ ((slot + 1) * w ≤ length (now words)) × (at + n ≤ 32 * w) × (w < 2 ^ 32) ⌝ }
+    ensures { λ _. ⌜ now (words .exit) ≡ fillSlot w slot (now (words .entry)) at n 1 ⌝ }
+{
+    write(words, slot, w, at, n, true);
+}
+
+// The same units cleared.
+pub fn unmark(words: &mut [u32], slot: usize, w: usize, at: usize, n: usize)
+    requires { ⌜ ((slot + 1) * w ≤ length (now words)) × (at + n ≤ 32 * w) × (w < 2 ^ 32) ⌝ }
+    ensures { λ _. ⌜ now (words .exit) ≡ fillSlot w slot (now (words .entry)) at n 0 ⌝ }
+{
+    write(words, slot, w, at, n, false);
+}
+
+// All words of a slot cleared.
+pub fn clear_slot(words: &mut [u32], slot: usize, w: usize)
+    requires { ⌜ ((slot + 1) * w ≤ length (now words)) × (w < 2 ^ 32) ⌝ }
+    ensures { λ _. ⌜ now (words .exit) ≡ putSlot w slot (now (words .entry)) (replicate w 0) ⌝ }
+{
+    unmark(words, slot, w, 0, 32 * w);
 }

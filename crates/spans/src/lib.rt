@@ -1,15 +1,28 @@
-// What stands at an address of a block: whether a span starts there, and where it ends.
+// Spans of a block: one by its address and units, and what stands at an address, whether a span starts there and where it ends.
 use block::Block;
 use state::Held;
+use state::Span;
 use state::State;
 ghost use mathlib.Core.Path.{_≡_};
-ghost use Prim.Native.Nat.{_+_, _-_, _*_, _%_, _^_, _≤_, _<_};
+ghost use Prim.Native.Nat.{_*_, _^_, _<_, _+_, _-_, _%_, _≤_};
 ghost use lib.ListN.{length};
-ghost use Rattle.block.specs.Record.{Placed};
+ghost use Rattle.numbers.specs.Units.{bytesOf};
 ghost use Rattle.state.specs.Table.{blockAt};
-ghost use Rattle.rules.specs.Turn.{unitOf};
-ghost use Rattle.rules.specs.Span.{starts, heldAt, heldOf, heldIn};
+ghost use Rattle.machine.specs.Turn.{span, unitOf};
+ghost use Rattle.block.specs.Record.{Placed};
+ghost use Rattle.machine.specs.Span.{starts, heldAt, heldOf, heldIn};
 ghost use Rattle.spans.specs.Within.{Within};
+
+// The span at an address of block `j` that has `n` units.
+pub fn span_at(s: State, j: usize, address: u64, n: u32) -> Span
+    requires { ⌜ (j < 64) × (blockAt s j .pool < 3) × (n * unitOf s (blockAt s j) < 2 ^ 64) ⌝ }
+    ensures { λ r. ⌜ r ≡ span address (bytesOf n (unitOf s (blockAt s j))) ⌝ }
+{
+    let b = state::block_at(s, j);
+    let pool = state::pool_at(s, b.pool);
+    let size = numbers::byte_size_from_area_size(n, pool.granularity);
+    Span { address, size }
+}
 
 // A span starts at a used unit that is unit 0, or behind a free one, or behind one with a stop bit.
 fn is_start(used: &[u32], stop: &[u32], unit: usize) -> bool
@@ -37,7 +50,7 @@ fn held_at(used: &[u32], stop: &[u32], area: u32, unit: u32) -> Held
     if !is_start(used, stop, at) {
         return Held::NoSpan;
     }
-    let last = index::bit_vector_index_of(stop, at, true);
+    let last = bits::index::bit_vector_index_of(stop, at, true);
     if (area as usize) <= last {
         return Held::NoStop;
     }
@@ -65,7 +78,7 @@ pub fn held_in(s: State, used: &[u32], stop: &[u32], j: usize, address: u64) -> 
     requires { ⌜ (j < 64) × (blockAt s j .pool < 3) × Placed (blockAt s j) (s .w) (length (now used)) (length (now stop)) × Within (blockAt s j) (unitOf s (blockAt s j)) address ⌝ }
     ensures { λ r. ⌜ r ≡ heldIn s (now (used .entry)) (now (stop .entry)) address j ⌝ }
 {
-    let b = entry::block_at(s, j);
-    let pool = entry::pool_at(s, b.pool);
+    let b = state::block_at(s, j);
+    let pool = state::pool_at(s, b.pool);
     held_of(b, used, stop, s.w, pool.granularity, address)
 }

@@ -2,7 +2,8 @@
 use block::Block;
 use sizes::Pool;
 ghost use mathlib.Core.Path.{_≡_};
-ghost use Rattle.state.specs.Table.{zeroBlock, zeroState};
+ghost use Prim.Native.Nat.{_<_};
+ghost use Rattle.state.specs.Table.{zeroBlock, zeroState, blockAt, poolAt};
 ghost use Rattle.state.specs.Outcome.{refusal};
 
 // How many blocks the table holds, and so the most slots that are ever in force.
@@ -85,7 +86,7 @@ pub struct Span {
     pub size: u64,
 }
 
-// Document 01's refusals but for the trace's own; `number` of rules/specs/Turn.antt has their numbers.
+// Document 01's refusals but for the trace's own; `number` of machine/specs/Turn.antt has their numbers.
 pub enum Refusal {
     InvalidArgument,
     TooLarge,
@@ -139,4 +140,21 @@ pub fn refused(s: State, why: Refusal) -> Outcome
         answer: Answer::Refused(why),
         state: s,
     }
+}
+
+// ---- the table by its entries
+
+// The block of age `j`.
+pub fn block_at(s: State, j: usize) -> Block
+    requires { ⌜ j < 64 ⌝ }
+    ensures { λ r. ⌜ r ≡ blockAt s j ⌝ }
+{
+    s.blocks[j]
+}
+
+pub fn pool_at(s: State, p: usize) -> Pool
+    requires { ⌜ p < 3 ⌝ }
+    ensures { λ r. ⌜ r ≡ poolAt s p ⌝ }
+{
+    s.pool[p]
 }

@@ -1,3 +1,4 @@
 pub mod Lookup
 pub mod Slot
 pub mod Place
+pub mod Shift

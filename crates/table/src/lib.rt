@@ -1,12 +1,15 @@
-// What the calls ask of the table: the block at an address, the lowest free slot, the newest block of a pool.
-// Each walks the table once.
-use block::Block;
+// What the calls ask of the table: the block at an address, the lowest free slot, the lowest place in the arena, the newest block of a pool.
+// Each walks the table once. `insert` and `remove` change it.
+pub mod insert;
+pub mod remove;
+
 use state::Found;
+use state::Place;
 use state::State;
 ghost use mathlib.Core.Path.{_≡_};
-ghost use Prim.Native.Nat.{_≤_};
-ghost use Rattle.state.specs.Find.{lookup, lowestSlot, newestSize};
-ghost use Rattle.table.specs.Ordered.{Ordered, Slotted, Taken};
+ghost use Prim.Native.Nat.{_≤_, _<_};
+ghost use Rattle.state.specs.Find.{lookup, lowestSlot, newestSize, lowestPlace};
+ghost use Rattle.table.specs.Ordered.{Ordered, Slotted, Taken, Arranged};
 
 // The size to start a new block of a pool from: its newest block's, or the base size if it has none.
 pub fn newest_size(s: State, pool: usize) -> u64
@@ -78,4 +81,27 @@ pub fn lowest_free_slot(s: State) -> Found
         k += 1;
     }
     Found::Nothing
+}
+
+// The lowest place in the arena for a block of `size` bytes: the first gap between standing blocks, in order of address, that holds it, from a
+// multiple of 65,536 on; or behind the last.
+pub fn lowest_place(s: State, size: u64) -> Place
+    requires { ⌜ Arranged s × (0 < size) × (size < 4294967296) ⌝ }
+    ensures { λ r. ⌜ r ≡ lowestPlace s size ⌝ }
+{
+    let mut at = s.arena;
+    let mut k: usize = 0;
+    while k < s.count {
+        let i = s.order[k];
+        let b = s.blocks[i];
+        if at + size <= b.base {
+            return Place::Address(at);
+        }
+        at = numbers::align_up(b.base + b.size, 65536);
+        k += 1;
+    }
+    if at + size <= s.arena + s.length {
+        return Place::Address(at);
+    }
+    Place::Nowhere
 }

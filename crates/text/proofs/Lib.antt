@@ -1,1 +1,3 @@
+pub mod Put
+pub mod Digits
 pub mod Line

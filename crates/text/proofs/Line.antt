@@ -2,10 +2,10 @@
 use Prim.Native.Nat.{ℕ}
 use mathlib.Core.List.{List, [], _∷_, _++_, append-assoc}
 use mathlib.Core.Path.{_≡_, subst}
-use Rattle.put.specs.Decimal.{decimal}
+use Rattle.text.specs.Decimal.{decimal}
 use Rattle.text.specs.Line.{line}
-use Rattle.put.specs.Put.{Puts}
-use Rattle.put.proofs.Put.{join}
+use Rattle.text.specs.Put.{Puts}
+use Rattle.text.proofs.Put.{join}
 
 one : (w : List ℕ) (a : ℕ) → (w ++ (32 ∷ decimal a)) ++ (10 ∷ []) ≡ line w (a ∷ [])
 one w a = simp append-assoc

@@ -1,7 +1,7 @@
 -- A line of text, byte by byte: a word and numbers. Assumes nothing.
 use Prim.Native.Nat.{ℕ}
 use mathlib.Core.List.{List, [], _∷_, _++_}
-use Rattle.put.specs.Decimal.{decimal}
+use Rattle.text.specs.Decimal.{decimal}
 
 -- each number behind one space
 abbrev pub spaced : List ℕ → List ℕ

@@ -8,14 +8,14 @@ use native.Mathlib.Omega.{arith}
 use lib.ListN.{length, drop, length-drop}
 use lib.Seq.{drop-drop}
 use Rattle.state.specs.declared.State.{State}
-use Rattle.rules.specs.Turn.{Turn}
-use Rattle.rules.specs.Machine as machine
+use Rattle.machine.specs.Turn.{Turn}
+use Rattle.machine.specs.Machine as machine
 use Rattle.records.specs.declared.Call.{Call}
 use Rattle.records.specs.declared.Record.the-variants.{Cut, Bad, Whole}
 use Rattle.records.specs.Records.{recordOf}
 use Rattle.lines.specs.Lines.{answerLine}
-use Rattle.put.specs.Put.{Puts}
-use Rattle.put.proofs.Put.{join}
+use Rattle.text.specs.Put.{Puts}
+use Rattle.text.proofs.Put.{join}
 use Rattle.lines.proofs.Lines.{answer-most}
 use Rattle.records.proofs.Ways.{whole-size}
 use Rattle.calls.specs.Calls.{callBy}

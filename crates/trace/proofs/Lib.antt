@@ -1,1 +1,4 @@
 pub mod Going
+pub mod Whole
+pub mod Pieces
+pub mod Sessions

@@ -5,14 +5,14 @@ use mathlib.Core.List.{List, [], _++_}
 use mathlib.Core.Path.{_≡_}
 use lib.ListN.{drop}
 use Rattle.state.specs.declared.State.{State}
-use Rattle.rules.specs.Turn.{Turn}
-use Rattle.rules.specs.Machine as machine
+use Rattle.machine.specs.Turn.{Turn}
+use Rattle.machine.specs.Machine as machine
 use Rattle.records.specs.declared.Record.{Record}
 use Rattle.records.specs.declared.Record.the-variants.{Cut, Bad, Whole}
 use Rattle.records.specs.Records.{recordOf}
 use Rattle.calls.specs.Calls.{callBy}
 use Rattle.lines.specs.Lines.{answerLine}
-use Rattle.put.specs.Put.{Puts}
+use Rattle.text.specs.Put.{Puts}
 
 -- ---- what so many records come to: the record of the allocator and the maps, the bytes taken, the lines, and whether a bad record stands behind
 pub record Run : Type 0 where

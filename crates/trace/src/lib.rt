@@ -1,4 +1,5 @@
-// The trace: records from lent bytes go through the calls, and document 01's lines go into lent bytes.
+// The trace: records from lent bytes go through the calls, and document 01's lines go into lent bytes. specs/Output.antt says what is written for any bytes at
+// all; proofs/Sessions.antt, that every way of reading a trace in pieces, playing them and finishing writes it.
 use records::Record;
 use state::State;
 ghost use Prim.Native.Nat.{_/_, _≤_};

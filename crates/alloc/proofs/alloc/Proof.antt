@@ -11,9 +11,9 @@ use Rattle.state.specs.declared.Refusal.{Refusal}
 use Rattle.state.specs.Shape.{goodShape}
 use Rattle.shape.specs.Shaped.{Shaped}
 use Rattle.shape.proofs.Shaped.{shaped-is}
-use Rattle.rules.specs.Turn.{turn, refuse}
-use Rattle.rules.specs.Alloc.{sizeTurn, allocTurn}
-use Rattle.facts.proofs.Pool.{g-good}
+use Rattle.machine.specs.Turn.{turn, refuse}
+use Rattle.machine.specs.Alloc.{sizeTurn, allocTurn}
+use Rattle.shape_facts.proofs.Pool.{g-good}
 use borrow.Author.Needs.{needs}
 use Rattle.alloc.proofs.alloc.Statement.{statement}
 use Rattle.alloc.proofs.alloc.Tie as tie

@@ -9,11 +9,11 @@ use Rattle.state.specs.declared.Searched.{Searched}
 use Rattle.state.specs.Table.{blockAt, poolAt}
 use Rattle.state.specs.Find.{newestSize}
 use Rattle.state.proofs.Lengths.{blocks-64}
-use Rattle.rules.specs.Alloc.{searchPool, markTurn, newTurn, searchedTurn}
-use Rattle.facts.proofs.Facts.{count-64}
-use Rattle.facts.proofs.Search.{Fits, Left, Place, search-left}
-use Rattle.facts.specs.Ready.{Makes}
-use Rattle.facts.proofs.Pool.{units-kept, g-good, pool-in, unit-some, bytes-in, whole, some-units, looked-into, hit-ready, newest-asked, new-ready}
+use Rattle.machine.specs.Alloc.{searchPool, markTurn, newTurn, searchedTurn}
+use Rattle.shape_facts.proofs.Facts.{count-64}
+use Rattle.shape_facts.proofs.Search.{Fits, Left, Place, search-left}
+use Rattle.shape_facts.specs.Ready.{Makes}
+use Rattle.shape_facts.proofs.Pool.{units-kept, g-good, pool-in, unit-some, bytes-in, whole, some-units, looked-into, hit-ready, newest-asked, new-ready}
 use borrow.Author.Needs.{needs}
 use Rattle.alloc.proofs.alloc_rounded.Statement.{statement}
 use Rattle.alloc.proofs.alloc_rounded.Tie as tie

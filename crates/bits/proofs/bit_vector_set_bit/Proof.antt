@@ -7,7 +7,7 @@ use native.Mathlib.Omega.{arith}
 use lib.Dec.{lit<}
 use lib.ListN.{length, getD, set}
 use Rattle.bits.specs.Bits.{put, setBit, Filled}
-use Rattle.bits.proofs.Fill.{filled-bit}
+use Rattle.bits.proofs.Filled.{filled-bit}
 use Rattle.bits.proofs.Ops.{or-put, and-put}
 use Rattle.bits.proofs.bit_vector_set_bit.Statement.{statement}
 use Rattle.bits.proofs.bit_vector_set_bit.Tie as tie

@@ -1,7 +1,7 @@
 use mathlib.Core.Path.{sym, ap, _∙_}
 use denote.Ref.{now}
-use Rattle.rules.specs.Turn.{turn}
-use Rattle.rules.specs.Machine.{step}
+use Rattle.machine.specs.Turn.{turn}
+use Rattle.machine.specs.Machine.{step}
 use Rattle.state.specs.declared.Answer.{Answer}
 use Rattle.records.specs.declared.Call.{Call}
 use Rattle.calls.specs.Calls.{callBy}

@@ -1,6 +1,6 @@
 use mathlib.Core.Path.{ap, _∙_}
-use Rattle.rules.specs.Turn.{Turn, turn}
-use Rattle.rules.specs.Machine.{orBefore}
+use Rattle.machine.specs.Turn.{Turn, turn}
+use Rattle.machine.specs.Machine.{orBefore}
 use Rattle.calls.proofs.Calls.{refused-keeps, granted-goes}
 use borrow.Author.Needs.{needs}
 use Rattle.calls.proofs.call_create.Statement.{statement}

@@ -3,8 +3,8 @@ use mathlib.Core.List.{List}
 use mathlib.Core.Path.{_≡_, refl, ap, _∙_}
 use native.Mathlib.Omega.{arith}
 use lib.ListN.{length, set}
-use Rattle.rules.specs.Create.{cleared}
-use Rattle.facts.proofs.Cleared.{cleared-more, length-cleared}
+use Rattle.machine.specs.Create.{cleared}
+use Rattle.shape_facts.proofs.Cleared.{cleared-more, length-cleared}
 use Rattle.create.proofs.clear_words.Statement.{statement}
 use Rattle.create.proofs.clear_words.Tie as tie
 

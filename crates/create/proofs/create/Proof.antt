@@ -8,10 +8,10 @@ use Rattle.state.specs.declared.State.{State}
 use Rattle.state.specs.declared.Answer.{Answer}
 use Rattle.state.specs.declared.Outcome.{Outcome}
 use Rattle.state.specs.Table.{zeroState}
-use Rattle.rules.specs.Turn.{turn}
-use Rattle.rules.specs.Create.{grantable}
+use Rattle.machine.specs.Turn.{turn}
+use Rattle.machine.specs.Create.{grantable}
 use Rattle.create.specs.Asked.{asked}
-use Rattle.facts.proofs.Cleared.{slots-room, slots-few}
+use Rattle.shape_facts.proofs.Cleared.{slots-room, slots-few}
 use Rattle.create.proofs.Turns.{words-low, words-high, refused-is, granted-is}
 use borrow.Author.Needs.{needs}
 use Rattle.create.proofs.create.Statement.{statement}

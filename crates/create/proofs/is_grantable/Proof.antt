@@ -9,7 +9,7 @@ use lib.Dec.{leb}
 use Rattle.numbers.proofs.Split.{not-both}
 use Rattle.state.proofs.Tests.{every-fails}
 use Rattle.state.specs.Shape.{every, arenaOk}
-use Rattle.rules.specs.Create.{slotsOf}
+use Rattle.machine.specs.Create.{slotsOf}
 use borrow.Author.Needs.{needs}
 use Rattle.create.proofs.is_grantable.Statement.{statement}
 use Rattle.create.proofs.is_grantable.Tie as tie

@@ -1,7 +1,7 @@
 use mathlib.Core.Path.{sym}
 use native.Mathlib.Omega.{arith}
 use lib.Seq.{length-take-le}
-use Rattle.put.proofs.Put.{size}
+use Rattle.text.proofs.Put.{size}
 use borrow.Author.Needs.{needs}
 use Rattle.feed.proofs.turn.Statement.{statement}
 use Rattle.feed.proofs.turn.Tie as tie

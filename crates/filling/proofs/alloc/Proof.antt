@@ -3,10 +3,10 @@ use mathlib.Core.Path.{sym, subst}
 use native.Mathlib.Omega.{arith}
 use denote.Ref.{now}
 use lib.ListN.{length}
-use Rattle.rules.specs.Turn.{Turn, turn}
-use Rattle.closed.proofs.Sized.{sized-is}
+use Rattle.machine.specs.Turn.{Turn, turn}
+use Rattle.shape_kept.proofs.Sized.{sized-is}
 use Rattle.filling.proofs.Lent.{not-lent, lent-fills, alloc-lent, asks, made-few}
-use Rattle.rules.specs.Machine.{alloc}
+use Rattle.machine.specs.Machine.{alloc}
 use borrow.Author.Needs.{needs}
 use Rattle.filling.proofs.alloc.Statement.{statement}
 use Rattle.filling.proofs.alloc.Tie as tie

@@ -2,8 +2,8 @@ use mathlib.Core.Bool.{true}
 use native.Mathlib.Omega.{arith}
 use denote.Ref.{now}
 use lib.ListN.{length}
-use Rattle.rules.specs.Turn.{turn}
-use Rattle.rules.specs.Machine.{hardReset}
+use Rattle.machine.specs.Turn.{turn}
+use Rattle.machine.specs.Machine.{hardReset}
 use Rattle.filling.proofs.Lent.{not-lent, lent-fills, reset-lent, hard-fills-none}
 use borrow.Author.Needs.{needs}
 use Rattle.filling.proofs.hard_reset.Statement.{statement}

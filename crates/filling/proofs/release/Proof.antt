@@ -1,10 +1,10 @@
 use native.Mathlib.Omega.{arith}
 use denote.Ref.{now}
 use lib.ListN.{length}
-use Rattle.rules.specs.Turn.{turn}
-use Rattle.closed.proofs.Sized.{sized-is}
+use Rattle.machine.specs.Turn.{turn}
+use Rattle.shape_kept.proofs.Sized.{sized-is}
 use Rattle.filling.proofs.Lent.{not-lent, lent-fills, release-lent, asks}
-use Rattle.rules.specs.Machine.{release}
+use Rattle.machine.specs.Machine.{release}
 use borrow.Author.Needs.{needs}
 use Rattle.filling.proofs.release.Statement.{statement}
 use Rattle.filling.proofs.release.Tie as tie

@@ -2,12 +2,12 @@ use mathlib.Core.Path.{ap, _∙_}
 use native.Mathlib.Omega.{arith}
 use denote.Ref.{now}
 use lib.ListN.{length}
-use Rattle.rules.specs.Turn.{turn}
-use Rattle.unused.specs.Unused.{freed}
-use Rattle.unused.proofs.Unused.{length-filled-all}
-use Rattle.closed.proofs.Sized.{sized-is}
+use Rattle.machine.specs.Turn.{turn}
+use Rattle.filling.specs.Unused.{freed}
+use Rattle.filling.proofs.Unused.{length-filled-all}
+use Rattle.shape_kept.proofs.Sized.{sized-is}
 use Rattle.filling.proofs.Lent.{not-lent, lent-fills, shrink-lent, shrink-asks, both-fills}
-use Rattle.rules.specs.Machine.{shrink}
+use Rattle.machine.specs.Machine.{shrink}
 use borrow.Author.Needs.{needs}
 use Rattle.filling.proofs.shrink.Statement.{statement}
 use Rattle.filling.proofs.shrink.Tie as tie

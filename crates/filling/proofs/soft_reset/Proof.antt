@@ -3,12 +3,12 @@ use mathlib.Core.Path.{_≡_, sym, subst}
 use native.Mathlib.Omega.{arith}
 use denote.Ref.{now}
 use lib.ListN.{length}
-use Rattle.rules.specs.Turn.{Turn, turn}
-use Rattle.closed.proofs.Sized.{sized-is}
+use Rattle.machine.specs.Turn.{Turn, turn}
+use Rattle.shape_kept.proofs.Sized.{sized-is}
 use mathlib.Core.Bool.{false}
 use Rattle.state.specs.declared.Answer.the-variants.{Reset}
 use Rattle.filling.proofs.Lent.{not-lent, lent-fills, reset-lent, asks, kept-few}
-use Rattle.rules.specs.Machine.{softReset}
+use Rattle.machine.specs.Machine.{softReset}
 use borrow.Author.Needs.{needs}
 use Rattle.filling.proofs.soft_reset.Statement.{statement}
 use Rattle.filling.proofs.soft_reset.Tie as tie

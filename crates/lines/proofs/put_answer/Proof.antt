@@ -4,7 +4,7 @@ use mathlib.Core.Path.{_≡_, sym, subst}
 use Rattle.state.specs.declared.Answer.{Answer}
 use Rattle.text.specs.Line.{line}
 use Rattle.lines.specs.Lines.{refused, answerLine}
-use Rattle.put.specs.Put.{Puts}
+use Rattle.text.specs.Put.{Puts}
 use borrow.Author.Needs.{needs}
 use Rattle.lines.proofs.put_answer.Statement.{statement}
 use Rattle.lines.proofs.put_answer.Tie as tie

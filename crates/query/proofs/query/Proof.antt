@@ -1,7 +1,7 @@
 use Rattle.state.specs.declared.Answer.the-variants.{Shown}
 use Rattle.state.specs.declared.Held.the-variants.{NoSpan, NoStop, Units}
 use Rattle.state.specs.declared.Span.{Span}
-use Rattle.rules.specs.Turn.{Turn, unitOf}
+use Rattle.machine.specs.Turn.{Turn, unitOf}
 use Prim.Native.Nat.{_-_, _≤_, _<_}
 use mathlib.Core.Bool.{true, false}
 use mathlib.Core.Path.{_≡_, sym, ap, _∙_}
@@ -15,8 +15,8 @@ use Rattle.state.specs.Shape.{goodShape}
 use Rattle.state.specs.Find.{holds, lookup}
 use Rattle.shape.specs.Shaped.{Shaped}
 use Rattle.shape.proofs.Shaped.{shaped-is}
-use Rattle.rules.specs.Span.{shownTurn, queriedTurn, queryTurn}
-use Rattle.facts.proofs.Facts.{ordered, askable, found-in, held-in-range, spannable}
+use Rattle.machine.specs.Span.{shownTurn, queriedTurn, queryTurn}
+use Rattle.shape_facts.proofs.Facts.{ordered, askable, found-in, held-in-range, spannable}
 use borrow.Author.Needs.{needs}
 use Rattle.query.proofs.query.Statement.{statement}
 use Rattle.query.proofs.query.Tie as tie

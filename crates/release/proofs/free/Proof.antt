@@ -8,11 +8,11 @@ use Rattle.state.specs.declared.State.{State}
 use Rattle.state.specs.Table.{blockAt}
 use Rattle.state.proofs.Lengths.{blocks-64, order-64}
 use Rattle.state.proofs.Lengths as lengths
-use Rattle.facts.proofs.Facts.{count-64, placed}
-use Rattle.rules.specs.Turn.{withLive}
-use Rattle.rules.specs.Release.{lessUsed, settle}
-use Rattle.facts.specs.Ready.{Settles}
-use Rattle.facts.proofs.Leaves.{Stays, released-stays, less-ready, settles-after}
+use Rattle.shape_facts.proofs.Facts.{count-64, placed}
+use Rattle.machine.specs.Turn.{withLive}
+use Rattle.machine.specs.Release.{lessUsed, settle}
+use Rattle.shape_facts.specs.Ready.{Settles}
+use Rattle.shape_facts.proofs.Leaves.{Stays, released-stays, less-ready, settles-after}
 use borrow.Author.Needs.{needs}
 use Rattle.release.proofs.free.Statement.{statement}
 use Rattle.release.proofs.free.Tie as tie

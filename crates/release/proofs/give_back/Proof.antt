@@ -14,8 +14,8 @@ use Rattle.state.specs.declared.Span.{Span}
 use Rattle.state.specs.declared.Answer.the-variants.{Released}
 use Rattle.state.specs.Table.{blockAt}
 use Rattle.shape.proofs.Bools.{or-left, or-right}
-use Rattle.rules.specs.Turn.{turn, unitOf, span}
-use Rattle.facts.proofs.Facts.{count-64, spannable}
+use Rattle.machine.specs.Turn.{turn, unitOf, span}
+use Rattle.shape_facts.proofs.Facts.{count-64, spannable}
 use Rattle.release.proofs.Cases.{released-damaged, released-free}
 use borrow.Author.Needs.{needs}
 use Rattle.release.proofs.give_back.Statement.{statement}

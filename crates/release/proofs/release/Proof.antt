@@ -12,9 +12,9 @@ use Rattle.state.specs.Shape.{goodShape}
 use Rattle.state.specs.Find.{holds, lookup}
 use Rattle.shape.specs.Shaped.{Shaped}
 use Rattle.shape.proofs.Shaped.{shaped-is}
-use Rattle.rules.specs.Turn.{turn, unitOf}
-use Rattle.rules.specs.Release.{releasedTurn, givenBackTurn, releaseTurn}
-use Rattle.facts.proofs.Facts.{ordered, askable, found-in, held-in-range}
+use Rattle.machine.specs.Turn.{turn, unitOf}
+use Rattle.machine.specs.Release.{releasedTurn, givenBackTurn, releaseTurn}
+use Rattle.shape_facts.proofs.Facts.{ordered, askable, found-in, held-in-range}
 use borrow.Author.Needs.{needs}
 use Rattle.release.proofs.release.Statement.{statement}
 use Rattle.release.proofs.release.Tie as tie

@@ -3,9 +3,9 @@ use mathlib.Core.Path.{_≡_, sym, ap, _∙_}
 use native.Mathlib.Omega.{arith}
 use lib.ListN.{length}
 use Rattle.state.specs.Table.{blockAt}
-use Rattle.rules.specs.Turn.{clearSlot}
-use Rattle.rules.specs.Reset.{clearBlocks}
-use Rattle.facts.proofs.Clear.{clear-none, clear-more, length-clear}
+use Rattle.machine.specs.Turn.{clearSlot}
+use Rattle.machine.specs.Reset.{clearBlocks}
+use Rattle.shape_facts.proofs.Clear.{clear-none, clear-more, length-clear}
 use Rattle.reset.proofs.clear_blocks.Statement.{statement}
 use Rattle.reset.proofs.clear_blocks.Tie as tie
 

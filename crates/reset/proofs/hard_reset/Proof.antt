@@ -6,7 +6,7 @@ use Rattle.state.specs.declared.Outcome.{Outcome}
 use Rattle.state.specs.Shape.{goodShape}
 use Rattle.shape.specs.Shaped.{Shaped}
 use Rattle.shape.proofs.Shaped.{shaped-is}
-use Rattle.rules.specs.Turn.{turn}
+use Rattle.machine.specs.Turn.{turn}
 use Rattle.reset.proofs.Turns.{clearable-used, clearable-stop, bad-is, done-is}
 use borrow.Author.Needs.{needs}
 use Rattle.reset.proofs.hard_reset.Statement.{statement}

@@ -14,10 +14,10 @@ use Rattle.state.specs.Shape.{goodShape}
 use Rattle.state.specs.Find.{holds, lookup}
 use Rattle.shape.specs.Shaped.{Shaped}
 use Rattle.shape.proofs.Shaped.{shaped-is}
-use Rattle.rules.specs.Turn.{turn, unitOf}
-use Rattle.rules.specs.Shrink.{shrunkTurn, cutDownTurn, shrinkTurn}
-use Rattle.facts.proofs.Facts.{count-64, ordered, askable, found-in, held-in-range}
-use Rattle.cut.proofs.Cases.{shrunk-damaged, shrunk-units, shrink-none}
+use Rattle.machine.specs.Turn.{turn, unitOf}
+use Rattle.machine.specs.Shrink.{shrunkTurn, cutDownTurn, shrinkTurn}
+use Rattle.shape_facts.proofs.Facts.{count-64, ordered, askable, found-in, held-in-range}
+use Rattle.shrink.proofs.Cases.{shrunk-damaged, shrunk-units, shrink-none}
 use borrow.Author.Needs.{needs}
 use Rattle.shrink.proofs.shrink.Statement.{statement}
 use Rattle.shrink.proofs.shrink.Tie as tie

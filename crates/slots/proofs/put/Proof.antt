@@ -1,6 +1,6 @@
 use borrow.Author.Needs.{needs}
 use lib.Dec.{lit<}
-use Rattle.bits.proofs.Fill.{filled-is}
+use Rattle.bits.proofs.Filled.{filled-is}
 use Rattle.slots.proofs.put.Statement.{statement}
 use Rattle.slots.proofs.put.Tie as tie
 

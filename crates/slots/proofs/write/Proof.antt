@@ -42,7 +42,7 @@ use denote.Exit.{yes}
 use denote.Signature.{plain}
 use borrow.Rule.Slice.PartMut.{midOf, putMid, same-len-mid}
 use Rattle.bits.specs.Bits.{filled}
-use Rattle.bits.proofs.Fill.{length-filled}
+use Rattle.bits.proofs.Filled.{length-filled}
 use Rattle.slots.specs.Back.{GoesBack}
 use Rattle.slots.proofs.Part.{told-back}
 use Rattle.slots.proofs.slot_mut as slot-mut

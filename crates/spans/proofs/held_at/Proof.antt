@@ -2,7 +2,7 @@ use borrow.Author.Tests.{not-true, not-false}
 use mathlib.Core.Path.{_≡_, sym, ap, _∙_}
 use mathlib.Core.Bool.{true, false}
 use native.Mathlib.Omega.{arith}
-use Rattle.rules.specs.Span.{starts, upTo}
+use Rattle.machine.specs.Span.{starts, upTo}
 use Rattle.spans.proofs.Stop.{stop-found, stop-none}
 use borrow.Author.Needs.{needs}
 use Rattle.spans.proofs.held_at.Statement.{statement}

@@ -4,8 +4,8 @@ use native.Mathlib.Omega.{arith}
 use Rattle.block.specs.declared.Block.{Block}
 use Rattle.sizes.specs.declared.Pool.{Pool}
 use Rattle.state.specs.Table.{blockAt}
-use Rattle.rules.specs.Turn.{unitOf}
-use Rattle.rules.specs.Span.{heldOf}
+use Rattle.machine.specs.Turn.{unitOf}
+use Rattle.machine.specs.Span.{heldOf}
 use borrow.Author.Needs.{needs}
 use Rattle.spans.proofs.held_in.Statement.{statement}
 use Rattle.spans.proofs.held_in.Tie as tie

@@ -9,7 +9,7 @@ use Rattle.numbers.proofs.Units.{units-even}
 use Rattle.numbers.specs.Units.{unitsOf}
 use Rattle.slots.specs.Slots.{slotOf}
 use Rattle.slots.proofs.Laws.{length-slot}
-use Rattle.rules.specs.Span.{heldAt}
+use Rattle.machine.specs.Span.{heldAt}
 use borrow.Author.Needs.{needs}
 use Rattle.spans.proofs.held_of.Statement.{statement}
 use Rattle.spans.proofs.held_of.Tie as tie

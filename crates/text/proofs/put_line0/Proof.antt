@@ -1,4 +1,4 @@
-use Rattle.put.proofs.Put.{join}
+use Rattle.text.proofs.Put.{join}
 use borrow.Author.Needs.{needs}
 use Rattle.text.proofs.put_line0.Statement.{statement}
 use Rattle.text.proofs.put_line0.Tie as tie

@@ -4,9 +4,9 @@ use native.Mathlib.Omega.{arith}
 use borrow.Author.Needs.{needs}
 use lib.ListN.{length, drop, length-drop}
 use lib.Seq.{take-all}
-use Rattle.rules.specs.Turn.{turn}
+use Rattle.machine.specs.Turn.{turn}
 use Rattle.records.specs.Records.{recordOf}
-use Rattle.put.proofs.Put.{size}
+use Rattle.text.proofs.Put.{size}
 use Rattle.records.proofs.Ways.{whole-size}
 use Rattle.trace.specs.Play.{play}
 use Rattle.trace.proofs.Going.{Going, start, no-room, cut, wrong, one-more}

@@ -1,0 +1,80 @@
+// A span is granted in a block that has a place for it.
+use block::Block;
+use sizes::Pool;
+use state::Answer;
+use state::Outcome;
+use state::Span;
+use state::State;
+ghost use mathlib.Core.Path.{_≡_};
+ghost use Prim.Native.Nat.{_+_, _-_, _*_, _^_, _≤_, _<_};
+ghost use lib.ListN.{length};
+ghost use Rattle.numbers.specs.Units.{bytesOf};
+ghost use Rattle.state.specs.Table.{blockAt, poolAt, one};
+ghost use Rattle.state.specs.Shape.{isEmpty};
+ghost use Rattle.machine.specs.Turn.{turn, span, putBlock, putPool, withLive, withCounts, unitOf};
+ghost use Rattle.machine.specs.Alloc.{markTurn};
+ghost use Rattle.shape_facts.specs.Ready.{Markable};
+
+// 1 for a block that is flagged empty: its pool then keeps one empty block less.
+fn one_if_empty(b: Block) -> u32
+    ensures { λ r. ⌜ r ≡ one (isEmpty b) ⌝ }
+{
+    if b.flags & Block::FLAG_EMPTY != 0 {
+        1
+    } else {
+        0
+    }
+}
+
+// A block's pool once `n` of the block's units are marked.
+fn counted(pool: Pool, b: Block, n: u32) -> Pool
+    requires { ⌜ (one (isEmpty b) ≤ pool .empty) × (pool .used + n < 2 ^ 32) ⌝ }
+    ensures { λ r. ⌜ r ≡ withCounts pool (pool .empty - one (isEmpty b)) (pool .used + n) ⌝ }
+{
+    let mut r = pool;
+    r.empty = pool.empty - one_if_empty(b);
+    r.used = pool.used + n;
+    r
+}
+
+// The span of `n` units from unit `i` on of block `j`. It starts behind the span that the units before it would make.
+fn span_from(s: State, j: usize, i: u32, n: u32) -> Span
+    requires { ⌜ (j < 64) × (blockAt s j .pool < 3) × (i + n ≤ blockAt s j .area) × (blockAt s j .base + blockAt s j .area * unitOf s (blockAt s j) < 2 ^ 64) ⌝ }
+    ensures { λ r. ⌜ r ≡ span (blockAt s j .base + bytesOf i (unitOf s (blockAt s j))) (bytesOf n (unitOf s (blockAt s j))) ⌝ }
+{
+    let b = state::block_at(s, j);
+    let before = spans::span_at(s, j, b.base, i);
+    spans::span_at(s, j, b.base + before.size, n)
+}
+
+// The record with block `j` marked: it becomes `marked`, `n` of its units and one span more are counted.
+fn with_span(s: State, j: usize, marked: Block, n: u32) -> State
+    requires { ⌜ (j < 64) × (blockAt s j .pool < 3) × (one (isEmpty (blockAt s j)) ≤ poolAt s (blockAt s j .pool) .empty) ⌝ }
+    requires { ⌜ (poolAt s (blockAt s j .pool) .used + n < 2 ^ 32) × (s .live + 1 < 2 ^ 64) ⌝ }
+    ensures { λ r. ⌜ r ≡ withLive (putPool (putBlock s j marked) (blockAt s j .pool)
+        (withCounts (poolAt s (blockAt s j .pool)) (poolAt s (blockAt s j .pool) .empty - one (isEmpty (blockAt s j))) (poolAt s (blockAt s j .pool) .used + n))) (s .live + 1) ⌝ }
+{
+    let b = state::block_at(s, j);
+    let p = b.pool;
+    let old = state::pool_at(s, p);
+    let mut r = s;
+    r.blocks[j] = marked;
+    r.pool[p] = counted(old, b, n);
+    r.live = s.live + 1;
+    r
+}
+
+// A span of `n` units from unit `i` on of the block of age `j`.
+pub fn mark_span(s: State, used: &mut [u32], stop: &mut [u32], j: usize, i: u32, n: u32) -> Outcome
+    requires { ⌜ Markable s (length (now used)) (length (now stop)) j i n ⌝ }
+    ensures { λ r. ⌜ turn (r .answer) (r .state) (now (used .exit)) (now (stop .exit)) ≡ markTurn s (now (used .entry)) (now (stop .entry)) j i n ⌝ }
+{
+    let b = state::block_at(s, j);
+    let span = span_from(s, j, i, n);
+    let marked = block::mark::mark_allocated_area(b, used, stop, s.w, i, i + n);
+    let state = with_span(s, j, marked, n);
+    Outcome {
+        answer: Answer::Granted(span),
+        state,
+    }
+}

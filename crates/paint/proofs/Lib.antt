@@ -1,9 +1,0 @@
-pub mod Pieces
-pub mod Paints
-pub mod Marking
-pub mod Count
-pub mod Lies
-pub mod Sound
-pub mod Slots
-pub mod Stands
-pub mod Back

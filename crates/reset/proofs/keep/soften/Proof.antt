@@ -1,0 +1,19 @@
+use mathlib.Core.Path.{_∙_}
+use borrow.Author.Needs.{needs}
+use Rattle.reset.proofs.keep.soften.Statement.{statement}
+use Rattle.reset.proofs.keep.soften.Tie as tie
+
+empty-table-requires : tie.Need-empty-table-requires
+empty-table-requires c κs = search needs
+
+returns : tie.Need-returns
+returns c = c .empty-table .ensures ∙ rw (c .before .if1 .taken)
+
+keep-oldest-requires : tie.Need-keep-oldest-requires
+keep-oldest-requires c κs = search needs
+
+returns-2 : tie.Need-returns-2
+returns-2 c = c .keep-oldest .ensures ∙ rw (c .before .if1 .left)
+
+pub soften-spec : {M : Type 1} → statement M
+soften-spec = tie.close (tie.spec empty-table-requires returns keep-oldest-requires returns-2)

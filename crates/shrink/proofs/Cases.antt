@@ -1,0 +1,55 @@
+-- The rule of shrink, by the cases that the code tells apart, which compares in bytes what the rule compares in units. Assumes nothing.
+use Prim.Native.Nat.{ℕ, _-_, _≤_, _<_}
+use mathlib.Core.Bool.{true, false}
+use mathlib.Core.List.{List}
+use mathlib.Core.Path.{_≡_, ap}
+use native.Mathlib.Omega.{arith}
+use lib.Dec.{ltb, eqb}
+use Rattle.numbers.specs.Units.{unitsOf, bytesOf}
+use Rattle.numbers.proofs.Split.{by-le, by-eq}
+use Rattle.numbers.proofs.Units.{units-hold, units-le}
+use Rattle.state.specs.declared.State.{State}
+use Rattle.state.specs.declared.Held.the-variants.{Units}
+use Rattle.state.specs.declared.Refusal.the-variants.{InvalidState, Damaged}
+use Rattle.state.specs.declared.Answer.the-variants.{Shrunk}
+use Rattle.state.specs.Table.{blockAt}
+use Rattle.machine.specs.Turn.{turn, refuse, span, unitOf}
+use Rattle.machine.specs.Release.{releaseTurn}
+use Rattle.machine.specs.Shrink.{cutTurn, unitsTurn, shrunkTurn, shrinkTurn}
+
+-- ---- bytes for units
+module _ (size unit : ℕ) (some : 0 < unit) where
+  pub units-over : (n : ℕ) → bytesOf n unit < size → n < unitsOf size unit
+  units-over n l = by-le (unitsOf size unit) n (λ g. absurd (omega (arith, units-le size unit n some .0 (omega arith)))) (λ g. g)
+
+  pub units-within : (n : ℕ) → size ≤ bytesOf n unit → unitsOf size unit ≤ n
+  units-within n l = omega (arith, units-le size unit n some .1 l)
+
+  -- a byte takes a unit
+  pub units-some : 0 < size → 0 < unitsOf size unit
+  units-some l =
+      by-eq (unitsOf size unit) 0 (λ e. absurd (omega (arith, units-hold size unit some, ap (λ (n : ℕ). bytesOf n unit) e))) (λ ne. omega (arith, ne))
+
+-- ---- a span, by the units that it is to keep
+module _ (s : State) (u t : List ℕ) (a j i e n : ℕ) where
+  pub more-units : ltb (e - i) n ≡ true → refuse InvalidState s u t ≡ unitsTurn s u t a j i e n
+  more-units z = rw z
+
+  pub same-units : ltb (e - i) n ≡ false → eqb n (e - i) ≡ true → turn (Shrunk (span a (bytesOf n (unitOf s (blockAt s j))))) s u t ≡ unitsTurn s u t a j i e n
+  same-units y z = rw (y, z)
+
+  pub fewer-units : ltb (e - i) n ≡ false → eqb n (e - i) ≡ false → cutTurn s u t a j i e n ≡ unitsTurn s u t a j i e n
+  fewer-units y z = rw (y, z)
+
+module _ (s : State) (u t : List ℕ) (a size j i e : ℕ) where
+  pub shrunk-damaged : ltb (blockAt s j .used) (e - i) ≡ true → refuse Damaged s u t ≡ shrunkTurn s u t a size j (Units i e)
+  shrunk-damaged z = rw z
+
+  pub shrunk-units : ltb (blockAt s j .used) (e - i) ≡ false
+      → unitsTurn s u t a j i e (unitsOf size (unitOf s (blockAt s j))) ≡ shrunkTurn s u t a size j (Units i e)
+  shrunk-units z = rw z
+
+-- ---- without a byte
+pub shrink-none : (s : State) (u t : List ℕ) (a size : ℕ) → eqb size 0 ≡ true → releaseTurn s u t a ≡ shrinkTurn s u t a size
+unfolding shrinkTurn
+shrink-none s u t a size e = rw e
