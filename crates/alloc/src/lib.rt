@@ -11,7 +11,7 @@ ghost use Rattle.numbers.specs.Pick.{pick};
 ghost use Rattle.sizes.specs.declared.Rounded.the-variants.{To};
 ghost use Rattle.state.specs.declared.Refusal.the-variants.{InvalidArgument, TooLarge};
 ghost use Rattle.machine.specs.Turn.{turn};
-ghost use Rattle.machine.specs.Alloc.{sizeTurn, allocTurn};
+ghost use Rattle.machine.specs.Alloc.{allocRounded, allocTurn};
 ghost use Rattle.shape_facts.specs.Ready.{Allocates};
 
 // The refusal of a size, by document 01's number.
@@ -28,10 +28,10 @@ fn size_refusal(number: u32) -> Refusal
 // A size that is rounded and not refused: the first block of its pool that has a place, or a new one.
 fn alloc_rounded(s: State, used: &mut [u32], stop: &mut [u32], bytes: u64) -> Outcome
     requires { ⌜ Allocates s (length (now used)) (length (now stop)) bytes ⌝ }
-    ensures { λ r. ⌜ turn (r .answer) (r .state) (now (used .exit)) (now (stop .exit)) ≡ sizeTurn s (now (used .entry)) (now (stop .entry)) (To bytes) ⌝ }
+    ensures { λ r. ⌜ turn (r .answer) (r .state) (now (used .exit)) (now (stop .exit)) ≡ allocRounded s (now (used .entry)) (now (stop .entry)) (To bytes) ⌝ }
 {
-    let p = sizes::size_to_pool_id(bytes, s.g, s.pools);
-    let pool = s.pool[p];
+    let p = sizes::size_to_pool_id(bytes, s.granularity, s.poolcount);
+    let pool = s.pools[p];
     let n = numbers::area_size_from_byte_size(bytes, pool.granularity);
     let found = alloc_search::search_pool(s, used, p, n);
     let hit = found.hit;
@@ -55,7 +55,7 @@ pub fn alloc(s: State, used: &mut [u32], stop: &mut [u32], size: u64) -> Outcome
     if !shape::shape_ok(s, used.len(), stop.len()) {
         return state::refused(s, Refusal::BadShape);
     }
-    let rounded = sizes::round_size(size, s.g);
+    let rounded = sizes::round_size(size, s.granularity);
     match rounded {
         Rounded::To(bytes) => {
             return alloc_rounded(s, used, stop, bytes);

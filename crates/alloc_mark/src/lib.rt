@@ -12,7 +12,7 @@ ghost use Rattle.numbers.specs.Units.{bytesOf};
 ghost use Rattle.state.specs.Table.{blockAt, poolAt, one};
 ghost use Rattle.state.specs.Shape.{isEmpty};
 ghost use Rattle.machine.specs.Turn.{turn, span, putBlock, putPool, withLive, withCounts, unitOf};
-ghost use Rattle.machine.specs.Alloc.{markTurn};
+ghost use Rattle.machine.specs.Alloc.{allocMarked};
 ghost use Rattle.shape_facts.specs.Ready.{Markable};
 
 // 1 for a block that is flagged empty: its pool then keeps one empty block less.
@@ -37,13 +37,13 @@ fn counted(pool: Pool, b: Block, n: u32) -> Pool
     r
 }
 
-// The span of `n` units from unit `i` on of block `j`. It starts behind the span that the units before it would make.
-fn span_from(s: State, j: usize, i: u32, n: u32) -> Span
-    requires { ⌜ (j < 64) × (blockAt s j .pool < 3) × (i + n ≤ blockAt s j .area) × (blockAt s j .base + blockAt s j .area * unitOf s (blockAt s j) < 2 ^ 64) ⌝ }
-    ensures { λ r. ⌜ r ≡ span (blockAt s j .base + bytesOf i (unitOf s (blockAt s j))) (bytesOf n (unitOf s (blockAt s j))) ⌝ }
+// The span of `n` units from unit `from` on of block `j`. It starts behind the span that the units before it would make.
+fn span_from(s: State, j: usize, from: u32, n: u32) -> Span
+    requires { ⌜ (j < 64) × (blockAt s j .pool < 3) × (from + n ≤ blockAt s j .area) × (blockAt s j .base + blockAt s j .area * unitOf s (blockAt s j) < 2 ^ 64) ⌝ }
+    ensures { λ r. ⌜ r ≡ span (blockAt s j .base + bytesOf from (unitOf s (blockAt s j))) (bytesOf n (unitOf s (blockAt s j))) ⌝ }
 {
     let b = state::block_at(s, j);
-    let before = spans::span_at(s, j, b.base, i);
+    let before = spans::span_at(s, j, b.base, from);
     spans::span_at(s, j, b.base + before.size, n)
 }
 
@@ -59,19 +59,19 @@ fn with_span(s: State, j: usize, marked: Block, n: u32) -> State
     let old = state::pool_at(s, p);
     let mut r = s;
     r.blocks[j] = marked;
-    r.pool[p] = counted(old, b, n);
+    r.pools[p] = counted(old, b, n);
     r.live = s.live + 1;
     r
 }
 
-// A span of `n` units from unit `i` on of the block of age `j`.
-pub fn mark_span(s: State, used: &mut [u32], stop: &mut [u32], j: usize, i: u32, n: u32) -> Outcome
-    requires { ⌜ Markable s (length (now used)) (length (now stop)) j i n ⌝ }
-    ensures { λ r. ⌜ turn (r .answer) (r .state) (now (used .exit)) (now (stop .exit)) ≡ markTurn s (now (used .entry)) (now (stop .entry)) j i n ⌝ }
+// A span of `n` units from unit `from` on of the block of age `j`.
+pub fn mark_span(s: State, used: &mut [u32], stop: &mut [u32], j: usize, from: u32, n: u32) -> Outcome
+    requires { ⌜ Markable s (length (now used)) (length (now stop)) j from n ⌝ }
+    ensures { λ r. ⌜ turn (r .answer) (r .state) (now (used .exit)) (now (stop .exit)) ≡ allocMarked s (now (used .entry)) (now (stop .entry)) j from n ⌝ }
 {
     let b = state::block_at(s, j);
-    let span = span_from(s, j, i, n);
-    let marked = block::mark::mark_allocated_area(b, used, stop, s.w, i, i + n);
+    let span = span_from(s, j, from, n);
+    let marked = block::mark::mark_allocated_area(b, used, stop, s.w, from, from + n);
     let state = with_span(s, j, marked, n);
     Outcome {
         answer: Answer::Granted(span),

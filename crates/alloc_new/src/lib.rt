@@ -9,13 +9,13 @@ ghost use mathlib.Core.Path.{_≡_};
 ghost use lib.ListN.{length};
 ghost use Rattle.state.specs.Change.{inserted};
 ghost use Rattle.machine.specs.Turn.{turn, clearSlot};
-ghost use Rattle.machine.specs.Alloc.{markTurn, newTurn};
+ghost use Rattle.machine.specs.Alloc.{allocMarked, allocNew};
 ghost use Rattle.shape_facts.specs.Ready.{Makeable, Makes};
 
 // A block at its place and slot, with a span of `n` units at unit 0.
 fn make_span(s: State, used: &mut [u32], stop: &mut [u32], b: Block, n: u32) -> Outcome
     requires { ⌜ Makeable s (length (now used)) (length (now stop)) b n ⌝ }
-    ensures { λ r. ⌜ turn (r .answer) (r .state) (now (used .exit)) (now (stop .exit)) ≡ markTurn (inserted s b) (clearSlot (s .w) (b .slot) (now (used .entry))) (clearSlot (s .w) (b .slot) (now (stop .entry))) (s .count) 0 n ⌝ }
+    ensures { λ r. ⌜ turn (r .answer) (r .state) (now (used .exit)) (now (stop .exit)) ≡ allocMarked (inserted s b) (clearSlot (s .w) (b .slot) (now (used .entry))) (clearSlot (s .w) (b .slot) (now (stop .entry))) (s .count) 0 n ⌝ }
 {
     let w = s.w;
     let slot = b.slot;
@@ -36,7 +36,7 @@ pub fn new_span(
     bytes: u64,
 ) -> Outcome
     requires { ⌜ Makes s (length (now used)) (length (now stop)) p n bytes ⌝ }
-    ensures { λ r. ⌜ turn (r .answer) (r .state) (now (used .exit)) (now (stop .exit)) ≡ newTurn s (now (used .entry)) (now (stop .entry)) p n bytes ⌝ }
+    ensures { λ r. ⌜ turn (r .answer) (r .state) (now (used .exit)) (now (stop .exit)) ≡ allocNew s (now (used .entry)) (now (stop .entry)) p n bytes ⌝ }
 {
     let place = table::lowest_place(s, bytes);
     let Place::Address(at) = place else {

@@ -23,7 +23,7 @@ use Rattle.slots.specs.Slots.{slotOf}
 use Rattle.block.specs.declared.Block.{Block}
 use Rattle.block.specs.declared.Looked.{Looked}
 use Rattle.block.specs.declared.Looked.the-variants.{Found, Missed}
-use Rattle.block.specs.Search.{isDirty, looks, looked, tightened, lookInto}
+use Rattle.block.specs.Search.{isDirty, worthSearching, looked, tightened, lookInto}
 use Rattle.block.specs.Window.{Longest, Windowed}
 
 -- n free units in a row: the used count leaves room for them
@@ -38,8 +38,8 @@ longest-le u area m i n g h f = by-le n m (λ p. p) (λ p. absurd (g .none-longe
 
 module _ (b : Block) (u : List ℕ) (s : Windowed b u) where
   -- any fit of the whole block is seen: the block is looked into, and the fit lies in the window
-  pub fit-seen : (i n : ℕ) → 0 < n → i + n ≤ b .area → FreeAt u n i → (looks b n ≡ true) × (b .start ≤ i) × (i + n ≤ b .end)
-  unfolding looks
+  pub fit-seen : (i n : ℕ) → 0 < n → i + n ≤ b .area → FreeAt u n i → (worthSearching b n ≡ true) × (b .start ≤ i) × (i + n ≤ b .end)
+  unfolding worthSearching
   fit-seen i n pos h f =
       let p = s .window i (omega arith) (f i (omega arith) (omega arith)) in
       let q = s .window (i + n - 1) (omega arith) (f (i + n - 1) (omega arith) (omega arith)) in
@@ -50,7 +50,7 @@ module _ (b : Block) (u : List ℕ) (s : Windowed b u) where
       go false e = le-leb n (b .largest) (longest-le u (b .area) (b .largest) i n (s .exact e) h f)
 
   -- looked into and found at i in the window, exactly if i is the lowest fit of the whole block
-  pub window-law : (i n : ℕ) → 0 < n → ((looks b n ≡ true) × Lowest u (b .start) (b .end) n i) ↔ Lowest u 0 (b .area) n i
+  pub window-law : (i n : ℕ) → 0 < n → ((worthSearching b n ≡ true) × Lowest u (b .start) (b .end) n i) ↔ Lowest u 0 (b .area) n i
   window-law i n pos = (
     λ q.
         record {
@@ -65,10 +65,10 @@ module _ (b : Block) (u : List ℕ) (s : Windowed b u) where
   )
 
   -- not looked into, or nothing found in the window: the whole block has no fit
-  pub window-none : (n : ℕ) → 0 < n → (looks b n ≡ false) ⊎ NoFit u (b .end) n (b .start) (b .end) → NoFit u (b .area) n 0 (b .area)
+  pub window-none : (n : ℕ) → 0 < n → (worthSearching b n ≡ false) ⊎ NoFit u (b .end) n (b .start) (b .end) → NoFit u (b .area) n 0 (b .area)
   window-none n pos o i a c d f =
       let r = fit-seen i n pos d f in
-      ⊎-elim (λ e. absurd (not-both (looks b n) (r .0) e)) (λ g. g i (r .1) (omega (arith, r .2)) (r .2) f) o
+      ⊎-elim (λ e. absurd (not-both (worthSearching b n) (r .0) e)) (λ g. g i (r .1) (omega (arith, r .2)) (r .2) f) o
 
   -- tightening keeps all of it
   pub tight-windowed : (first last longest : ℕ) → Tightened u (b .start) (b .end) first last longest → Windowed (tightened b first last longest) u
@@ -97,14 +97,14 @@ module _ (b : Block) (u : List ℕ) (n : ℕ) (s : Windowed b u) (pos : 0 < n) w
   Outcome (Found i) = Lowest u 0 (b .area) n i
   Outcome (Missed c) = NoFit u (b .area) n 0 (b .area) × Windowed c u
 
-  looked-outcome : looks b n ≡ true → (r : Search) → Sought u (b .start) (b .end) n r → Outcome (looked b r)
+  looked-outcome : worthSearching b n ≡ true → (r : Search) → Sought u (b .start) (b .end) n r → Outcome (looked b r)
   looked-outcome e (At i) q = window-law b u s i n pos .0 (e, q)
   looked-outcome e (Tight f l m) q =
       (window-none b u s n pos (inr (λ i x y z g. q .0 .none-longer i x y (omega (arith, q .1)) (λ k c d. g k c (omega (arith, q .1))))), tight-windowed b u s f l m (q .0))
   looked-outcome e Full q =
       (window-none b u s n pos (inr (λ i x y z g. omega (arith, q i x y, g i (omega arith) (omega arith)))), s)
 
-  picked : (l : Bool) → looks b n ≡ l → (r : Search) → Sought u (b .start) (b .end) n r → Outcome (pick l (looked b r) (Missed b))
+  picked : (l : Bool) → worthSearching b n ≡ l → (r : Search) → Sought u (b .start) (b .end) n r → Outcome (pick l (looked b r) (Missed b))
   picked true e r q = looked-outcome e r q
   picked false e r q = (window-none b u s n pos (inl e), s)
 
@@ -112,7 +112,7 @@ module _ (w : ℕ) (b : Block) (ws : List ℕ) (n : ℕ) (s : Windowed b (slotOf
   pub look-outcome : Outcome b (slotOf w (b .slot) ws) n s pos (lookInto w b ws n)
   unfolding lookInto
   look-outcome =
-      picked b (slotOf w (b .slot) ws) n s pos (looks b n) refl (seek (slotOf w (b .slot) ws) (b .start) (b .end) n) (seek-is (slotOf w (b .slot) ws) (b .start) (b .end) n pos)
+      picked b (slotOf w (b .slot) ws) n s pos (worthSearching b n) refl (seek (slotOf w (b .slot) ws) (b .start) (b .end) n) (seek-is (slotOf w (b .slot) ws) (b .start) (b .end) n pos)
 
   -- found at i, exactly if i is the lowest fit of the whole block
   pub look-found : (i : ℕ) → (lookInto w b ws n ≡ Found i) ↔ Lowest (slotOf w (b .slot) ws) 0 (b .area) n i

@@ -17,8 +17,8 @@ abbrev pub isDirty : Block → Bool
 isDirty b = isOn (b .flags) dirtyFlag
 
 -- a block is looked into if its free units are at least n and it is dirty or its largest-run field is at least n
-unfoldable pub looks : Block → ℕ → Bool
-looks b n = pick (leb n (b .area - b .used)) (pick (isDirty b) true (leb n (b .largest))) false
+unfoldable pub worthSearching : Block → ℕ → Bool
+worthSearching b n = pick (leb n (b .area - b .used)) (pick (isDirty b) true (leb n (b .largest))) false
 
 -- the window's start becomes its first free unit, its end the end of its last free run, the largest-run field its longest free run, dirty is cleared
 abbrev pub tightened : Block → ℕ → ℕ → ℕ → Block
@@ -31,4 +31,4 @@ looked b (Tight first last longest) = Missed (tightened b first last longest)
 looked b Full = Missed b
 
 unfoldable pub lookInto : ℕ → Block → List ℕ → ℕ → Looked
-lookInto w b u n = pick (looks b n) (looked b (seek (slotOf w (b .slot) u) (b .start) (b .end) n)) (Missed b)
+lookInto w b u n = pick (worthSearching b n) (looked b (seek (slotOf w (b .slot) u) (b .start) (b .end) n)) (Missed b)

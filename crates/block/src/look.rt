@@ -5,12 +5,12 @@ ghost use mathlib.Core.Path.{_≡_};
 ghost use Prim.Native.Nat.{_<_, _≤_};
 ghost use lib.ListN.{length};
 ghost use Rattle.block.specs.Record.{Placed};
-ghost use Rattle.block.specs.Search.{looks, tightened, lookInto};
+ghost use Rattle.block.specs.Search.{worthSearching, tightened, lookInto};
 
 // The block is looked into: enough units are free, and the longest run that was seen is long enough or out of date.
-fn is_looked_into(b: Block, n: u32) -> bool
+fn worth_searching(b: Block, n: u32) -> bool
     requires { ⌜ b .used ≤ b .area ⌝ }
-    ensures { λ r. ⌜ r ≡ looks b n ⌝ }
+    ensures { λ r. ⌜ r ≡ worthSearching b n ⌝ }
 {
     if b.area - b.used < n {
         return false;
@@ -37,7 +37,7 @@ pub fn look_into(b: Block, used: &[u32], w: usize, n: u32) -> Looked
     requires { ⌜ Placed b w (length (now used)) (length (now used)) × (0 < n) ⌝ }
     ensures { λ r. ⌜ r ≡ lookInto w b (now (used .entry)) n ⌝ }
 {
-    if !is_looked_into(b, n) {
+    if !worth_searching(b, n) {
         return Looked::Missed(b);
     }
     let slot = b.slot;

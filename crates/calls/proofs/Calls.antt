@@ -22,7 +22,7 @@ use Rattle.state.specs.declared.Answer.the-variants.{Created, Granted, Released
 use Rattle.state.specs.Shape.{badShape}
 use Rattle.state.specs.Find.{lookup}
 use Rattle.machine.specs.Turn.{Turn, turn, refuse}
-use Rattle.machine.specs.Span.{heldIn, shownTurn, queriedTurn, queryTurn}
+use Rattle.machine.specs.Span.{heldIn, queryHeld, queryFound, queryTurn}
 use Rattle.machine.specs.Machine.{orBefore}
 
 -- ---- creation
@@ -43,16 +43,16 @@ granted-goes s x Reset h = refl
 granted-goes s x (Refused r) h = six h
 
 -- ---- a query
-still-held : (s : State) (u t : List ℕ) (a j : ℕ) (h : Held) → turn (shownTurn s u t a j h .answer) s u t ≡ shownTurn s u t a j h
+still-held : (s : State) (u t : List ℕ) (a j : ℕ) (h : Held) → turn (queryHeld s u t a j h .answer) s u t ≡ queryHeld s u t a j h
 still-held s u t a j NoSpan = refl
 still-held s u t a j NoStop = refl
 still-held s u t a j (Units i e) = refl
 
-still-found : (s : State) (u t : List ℕ) (a : ℕ) (f : Found) → turn (queriedTurn s u t a f .answer) s u t ≡ queriedTurn s u t a f
+still-found : (s : State) (u t : List ℕ) (a : ℕ) (f : Found) → turn (queryFound s u t a f .answer) s u t ≡ queryFound s u t a f
 still-found s u t a Nothing = refl
 still-found s u t a (At j) = still-held s u t a j (heldIn s u t a j)
 
-still-either : (s : State) (u t : List ℕ) (a : ℕ) (b : Bool) → let x = pick b (refuse BadShape s u t) (queriedTurn s u t a (lookup s a)) in turn (x .answer) s u t ≡ x
+still-either : (s : State) (u t : List ℕ) (a : ℕ) (b : Bool) → let x = pick b (refuse BadShape s u t) (queryFound s u t a (lookup s a)) in turn (x .answer) s u t ≡ x
 still-either s u t a true = refl
 still-either s u t a false = still-found s u t a (lookup s a)
 

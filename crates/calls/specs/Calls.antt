@@ -6,7 +6,7 @@ use Rattle.records.specs.declared.Call.{Call}
 use Rattle.records.specs.declared.Call.the-variants.{Create, Alloc, Release, Shrink, Query, SoftReset, HardReset}
 
 abbrev pub askedBy : read.Asked → Asked
-askedBy a = record { size = a .size; g = a .g; flags = a .flags; w = a .w; arena = a .arena; length = a .length }
+askedBy a = record { size = a .size; granularity = a .granularity; flags = a .flags; w = a .w; arena = a .arena; length = a .length }
 
 abbrev pub callBy : Call → machine.Call
 callBy (Create a) = machine.create (askedBy a)

@@ -13,7 +13,16 @@ ghost use Rattle.calls.specs.Calls.{askedBy, callBy};
 fn call_create(s: State, used: &mut [u32], stop: &mut [u32], a: Asked) -> Outcome
     ensures { λ r. ⌜ turn (r .answer) (r .state) (now (used .exit)) (now (stop .exit)) ≡ step s (now (used .entry)) (now (stop .entry)) (create (askedBy a)) ⌝ }
 {
-    let made = create::create(a.size, a.g, a.flags, a.w, a.arena, a.length, used, stop);
+    let made = create::create(
+        a.size,
+        a.granularity,
+        a.flags,
+        a.w,
+        a.arena,
+        a.length,
+        used,
+        stop,
+    );
     let answer = made.answer;
     if let Answer::Refused(_) = answer {
         return Outcome { answer, state: s };

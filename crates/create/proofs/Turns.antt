@@ -32,6 +32,6 @@ refused-is a u t s e q = rw (e, q)
 
 pub granted-is : (a : Asked) (u t : List ℕ) (s : State) (n : ℕ) (x y : List ℕ) → grantable a (length u) (length t) ≡ true
     → n ≡ slotsOf (a .w) (length u) (length t) → s ≡ freshState a n → x ≡ cleared (n * a .w) u → y ≡ cleared (n * a .w) t
-    → turn (Created (s .size) (s .g) (s .pools)) s x y ≡ createTurn a u t
+    → turn (Created (s .size) (s .granularity) (s .poolcount)) s x y ≡ createTurn a u t
 unfolding createTurn
 granted-is a u t s n x y e k q i j = rw (e, q, i, j, k)

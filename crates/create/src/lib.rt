@@ -75,23 +75,23 @@ fn clear_words(words: &mut [u32], n: usize)
 // The record of an allocator with no block.
 fn fresh_state(
     size: u32,
-    g: u32,
+    granularity: u32,
     flags: u32,
     w: usize,
     arena: u64,
     length: u64,
     slots: usize,
 ) -> State
-    ensures { λ r. ⌜ r ≡ freshState (asked size g flags w arena length) slots ⌝ }
+    ensures { λ r. ⌜ r ≡ freshState (asked size granularity flags w arena length) slots ⌝ }
 {
-    let unit = sizes::limits::granularity_in_force(g);
+    let unit = sizes::limits::granularity_in_force(granularity);
     let base = sizes::limits::base_size_in_force(size);
-    let pools = pools_asked(flags);
+    let poolcount = pools_asked(flags);
     let immediate = immediate_asked(flags);
     State {
         size: base,
-        g: unit,
-        pools,
+        granularity: unit,
+        poolcount,
         immediate,
         w,
         slots,
@@ -101,16 +101,16 @@ fn fresh_state(
         count: 0,
         blocks: [state::zero_block(); 64],
         order: [0; 64],
-        pool: [Pool::new(unit); 3],
+        pools: [Pool::new(unit); 3],
     }
 }
 
 // The answer to a creation that is granted has what is in force.
 fn created(state: State) -> Outcome
-    ensures { λ r. ⌜ (r .state ≡ state) × (r .answer ≡ Created (state .size) (state .g) (state .pools)) ⌝ }
+    ensures { λ r. ⌜ (r .state ≡ state) × (r .answer ≡ Created (state .size) (state .granularity) (state .poolcount)) ⌝ }
 {
     Outcome {
-        answer: Answer::Created(state.size, state.g, state.pools),
+        answer: Answer::Created(state.size, state.granularity, state.poolcount),
         state,
     }
 }
@@ -125,7 +125,7 @@ fn not_granted() -> Outcome
 // their range are refused, and then no word is written.
 pub fn create(
     size: u32,
-    g: u32,
+    granularity: u32,
     flags: u32,
     w: u32,
     arena: u64,
@@ -133,7 +133,7 @@ pub fn create(
     used: &mut [u32],
     stop: &mut [u32],
 ) -> Outcome
-    ensures { λ r. ⌜ turn (r .answer) (r .state) (now (used .exit)) (now (stop .exit)) ≡ createTurn (asked size g flags w arena length) (now (used .entry)) (now (stop .entry)) ⌝ }
+    ensures { λ r. ⌜ turn (r .answer) (r .state) (now (used .exit)) (now (stop .exit)) ≡ createTurn (asked size granularity flags w arena length) (now (used .entry)) (now (stop .entry)) ⌝ }
 {
     let words = w as usize;
     if !is_grantable(words, arena, length, used.len(), stop.len()) {
@@ -143,5 +143,5 @@ pub fn create(
     let n = slots * words;
     clear_words(used, n);
     clear_words(stop, n);
-    created(fresh_state(size, g, flags, words, arena, length, slots))
+    created(fresh_state(size, granularity, flags, words, arena, length, slots))
 }

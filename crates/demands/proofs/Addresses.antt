@@ -19,7 +19,7 @@ use Rattle.ledger.specs.Reached.{Reached}
 use Rattle.ledger.proofs.View.{strike-head, strike-tail}
 use Rattle.ledger.proofs.Finds.{shrink-release}
 use Rattle.ledger.proofs.Reached.{Known, reached-known}
-use Rattle.demands.specs.Apart.{Apart, Held, Vacant}
+use Rattle.demands.specs.Apart.{Apart, HasBlock, Vacant}
 use Rattle.demands.proofs.Spans.{known-one, known-apart, known-inside}
 use Rattle.demands.proofs.Answers.{Queried, unknown, known, queried, GivenBack, zero-address, no-block, no-span, struck, given-back, CutDown, too-many, shortened, cut-down}
 
@@ -94,20 +94,20 @@ module _ {s : State} {u t : List ℕ} {l : List Span} (r : Reached s u t l) wher
       )
 
   -- refusal 1 exactly if a is 0, or in a block and not in the ledger
-  pub release-refused-1 : (a : ℕ) → (step s u t (release a) .answer ≡ Refused InvalidArgument) ↔ ((a ≡ 0) ⊎ (Held s a × Vacant l a))
+  pub release-refused-1 : (a : ℕ) → (step s u t (release a) .answer ≡ Refused InvalidArgument) ↔ ((a ≡ 0) ⊎ (HasBlock s a × Vacant l a))
   release-refused-1 a = go (given-back k a)
     where
-      go : GivenBack s u t l a → (step s u t (release a) .answer ≡ Refused InvalidArgument) ↔ ((a ≡ 0) ⊎ (Held s a × Vacant l a))
+      go : GivenBack s u t l a → (step s u t (release a) .answer ≡ Refused InvalidArgument) ↔ ((a ≡ 0) ⊎ (HasBlock s a × Vacant l a))
       go (zero-address p none e) = (λ q. inl p, λ x. e)
       go (no-block p h none e) = (λ q. absurd (not-1-3 _ q e), λ x. ⊎-elim (λ c. absurd (p c)) (λ c. absurd (h (c .0))) x)
       go (no-span p h none e) = (λ q. inr (h, none), λ x. e)
       go (struck p y h m e) = (λ q. absurd (released-not _ (span a y) InvalidArgument q e), λ x. ⊎-elim (λ c. absurd (p c)) (λ c. absurd (c .1 y m)) x)
 
   -- refusal 3 exactly if a is not 0 and in no block
-  pub release-refused-3 : (a : ℕ) → (step s u t (release a) .answer ≡ Refused InvalidState) ↔ ((a ≡ 0 → ⊥) × (Held s a → ⊥))
+  pub release-refused-3 : (a : ℕ) → (step s u t (release a) .answer ≡ Refused InvalidState) ↔ ((a ≡ 0 → ⊥) × (HasBlock s a → ⊥))
   release-refused-3 a = go (given-back k a)
     where
-      go : GivenBack s u t l a → (step s u t (release a) .answer ≡ Refused InvalidState) ↔ ((a ≡ 0 → ⊥) × (Held s a → ⊥))
+      go : GivenBack s u t l a → (step s u t (release a) .answer ≡ Refused InvalidState) ↔ ((a ≡ 0 → ⊥) × (HasBlock s a → ⊥))
       go (zero-address p none e) = (λ q. absurd (not-1-3 _ e q), λ x. absurd (x .0 p))
       go (no-block p h none e) = (λ q. (p, h), λ x. e)
       go (no-span p h none e) = (λ q. absurd (not-1-3 _ e q), λ x. absurd (x .1 h))
@@ -119,7 +119,7 @@ module _ {s : State} {u t : List ℕ} {l : List Span} (r : Reached s u t l) wher
 
   module _ (a size : ℕ) (some : size ≡ 0 → ⊥) where
     abbrev bytes : ℕ
-    bytes = bytesOf (unitsOf size (s .g)) (s .g)
+    bytes = bytesOf (unitsOf size (s .granularity)) (s .granularity)
 
     -- granted exactly if the ledger has a span there of no fewer units
     pub shrink-grants : (y : ℕ) → (step s u t (shrink a size) .answer ≡ Shrunk (span a y)) ↔ ((y ≡ bytes) × ((z : ℕ) × In a z l × (bytes ≤ z)))

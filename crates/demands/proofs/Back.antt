@@ -30,8 +30,8 @@ use Rattle.shape_facts.proofs.Facts.{unit-g, pool-3}
 use Rattle.shape_facts.proofs.Search.{Left, Place as PlaceIn}
 use Rattle.shape_facts.proofs.Pool.{whole, units-kept}
 use Rattle.machine.specs.Turn.{Turn, span}
-use Rattle.machine.specs.Alloc.{markTurn, makeTurn}
-use Rattle.machine.specs.Release.{freeTurn, releaseTurn}
+use Rattle.machine.specs.Alloc.{allocMarked, allocMade}
+use Rattle.machine.specs.Release.{releaseUnits, releaseTurn}
 use Rattle.machine.specs.Machine.{alloc, release, step}
 use Rattle.ledger.proofs.Lies.{marked-lies}
 use Rattle.shape_kept.specs.Sized.{Sized}
@@ -44,7 +44,7 @@ use Rattle.ledger.specs.First.{FirstFrom}
 use Rattle.ledger.specs.Reached.{Reached, called}
 use Rattle.ledger.proofs.View.{strike-head}
 use Rattle.ledger.proofs.Search.{Combed}
-use Rattle.ledger.proofs.Alloc.{refused, hit, full, made, goes, Goes as Ways}
+use Rattle.ledger.proofs.Alloc.{refused, hit, full, made, goes, Ways}
 use Rattle.ledger.proofs.Made.{made-answer, made-lies, made-shaped}
 use Rattle.ledger.proofs.Step.{combed, left}
 use Rattle.ledger.proofs.Reached.{Known, reached-known, step-known}
@@ -135,9 +135,9 @@ module _ {s : State} {u t : List ℕ} {l : List Span} (k : Known s u t l) (size 
       }
 
   -- ---- marked in a standing block
-  hit-ends : (j i : ℕ) → searchFor s u bytes .hit ≡ At j i → x ≡ markTurn r u t j i n → Ends s u t p x (released x a)
+  hit-ends : (j i : ℕ) → searchFor s u bytes .hit ≡ At j i → x ≡ allocMarked r u t j i n → Ends s u t p x (released x a)
   hit-ends j i e turned =
-      let m = markTurn r u t j i n in
+      let m = allocMarked r u t j i n in
       let d = subst (PlaceIn u (length t) p n pos r) e (lf .place) in
       let h = d .0 in
       let c = subst (FirstFrom s u p n 0) e (cb .first) in
@@ -147,21 +147,21 @@ module _ {s : State} {u t : List ℕ} {l : List Span} (k : Known s u t l) (size 
       let block = lies-trans (lies-refl (put-block r zr j (marked (blockAt r j) i (i + n)) low)) (marked-lies (blockAt r j) i (i + n)) in
       let unit = unit-g r (length u) (length t) (lf .shaped) (blockAt r j .pool) (pool-3 r (length u) (length t) (lf .shaped) j h) in
       let g = granted-span (x .answer) _ (span a z) (ap (λ (y : Turn). y .answer) turned) granted in
-      let ea : a ≡ blockAt (m .state) j .base + i * r .g = sym (g .0) ∙ ap₂ (λ (b c : ℕ). b + i * c) (sym (block .base)) unit in
-      let ez : z ≡ n * r .g = sym (g .1) ∙ ap (λ (c : ℕ). n * c) unit in
+      let ea : a ≡ blockAt (m .state) j .base + i * r .granularity = sym (g .0) ∙ ap₂ (λ (b c : ℕ). b + i * c) (sym (block .base)) unit in
+      let ez : z ≡ n * r .granularity = sym (g .1) ∙ ap (λ (c : ℕ). n * c) unit in
       let again = found-again (known-after m turned) a z j i n (inl (refl, refl)) h (omega (arith, block .area, d .2 .high, pos)) ea ez in
       let back = marked-back r u t l (lf .shaped) zr (cb .ready .stands) (cb .ready .agrees) (k .used-words) (k .stop-words) j i n a h pos (d .2 .high) (subst (λ (ws : List ℕ). FreeAt ws n i) same (c .3 .free)) in
-      let path : released x a ≡ freeTurn (m .state) (m .used) (m .stop) a j i (i + n) = ap (λ (y : Turn). released y a) turned ∙ again in
+      let path : released x a ≡ releaseUnits (m .state) (m .used) (m .stop) a j i (i + n) = ap (λ (y : Turn). released y a) turned ∙ again in
       let done : AllStood r u t (released x a) × (released x a .state .count ≡ r .count) = subst (λ (y : Turn). AllStood r u t y × (y .state .count ≡ r .count)) (sym path) back in
       (stood-before (released x a) (done .0), inl (done .1 ∙ lf .count, inl (ap (λ (y : Turn). y .state .count) turned ∙ lf .count)))
 
   -- ---- in a new block
-  made-ends : (place slot : ℕ) → Places r p bytes place slot → x ≡ makeTurn r u t p n (newSize r p bytes) place slot → Ends s u t p x (released x a)
+  made-ends : (place slot : ℕ) → Places r p bytes place slot → x ≡ allocMade r u t p n (newSize r p bytes) place slot → Ends s u t p x (released x a)
   made-ends place slot o turned =
-      let m = makeTurn r u t p n (newSize r p bytes) place slot in
+      let m = allocMade r u t p n (newSize r p bytes) place slot in
       let d = seeks-ready s u t size bytes q in
-      let pools : r .pools ≡ s .pools = ap (λ (c : State). c .pools) (cb .only) in
-      let p-low : p < r .pools = omega (arith, pools, pool-below bytes (s .g) (s .pools) (d .shaped .head .pools-listed)) in
+      let pools : r .poolcount ≡ s .poolcount = ap (λ (c : State). c .poolcount) (cb .only) in
+      let p-low : p < r .poolcount = omega (arith, pools, pool-below bytes (s .granularity) (s .poolcount) (d .shaped .head .pools-listed)) in
       let fits = units-kept s r (lf .pools) p p n n bytes refl refl (whole s (length u) (length t) bytes d) in
       let st = cb .ready .stands in
       let ag = cb .ready .agrees in
@@ -169,11 +169,11 @@ module _ {s : State} {u t : List ℕ} {l : List Span} (k : Known s u t l) (size 
       let lies = made-lies r u t l (lf .shaped) zr st ag live p n bytes place slot p-low pos (d .some) (d .most) fits o in
       let shape = made-shaped r u t l (lf .shaped) zr st ag live p n bytes place slot p-low pos (d .some) (d .most) fits o in
       let answer = made-answer r u t l (lf .shaped) zr st ag live p n bytes place slot p-low pos (d .some) (d .most) fits o in
-      let g = granted-span (x .answer) (span place (n * r .g)) (span a z) (ap (λ (y : Turn). y .answer) turned ∙ answer) granted in
-      let ea : a ≡ blockAt (m .state) (r .count) .base + 0 * r .g = omega (arith, g .0, lies .base) in
+      let g = granted-span (x .answer) (span place (n * r .granularity)) (span a z) (ap (λ (y : Turn). y .answer) turned ∙ answer) granted in
+      let ea : a ≡ blockAt (m .state) (r .count) .base + 0 * r .granularity = omega (arith, g .0, lies .base) in
       let again = found-again (known-after m turned) a z (r .count) 0 n (inl (refl, refl)) (omega arith) (shape .sound (r .count) (omega arith) .area-low) ea (sym (g .1)) in
       let back = made-back r u t l (lf .shaped) zr st ag live p n bytes place slot p-low pos (d .some) (d .most) fits o a in
-      let path : released x a ≡ freeTurn (m .state) (m .used) (m .stop) a (r .count) 0 (0 + n) = ap (λ (y : Turn). released y a) turned ∙ again in
+      let path : released x a ≡ releaseUnits (m .state) (m .used) (m .stop) a (r .count) 0 (0 + n) = ap (λ (y : Turn). released y a) turned ∙ again in
       let done = subst (Outcome r u t l (lf .shaped) zr st ag live p n bytes place slot p-low pos (d .some) (d .most) fits o a) (sym path) back in
       let same-pool : poolAt r p .empty ≡ poolAt s p .empty = ap (λ (ps : List Pool). getD ps p (freshPool 0) .empty) (lf .pools) in
       let same-rule : r .immediate ≡ s .immediate = ap (λ (c : State). c .immediate) (cb .only) in (
@@ -191,7 +191,7 @@ module _ {s : State} {u t : List ℕ} {l : List Span} (k : Known s u t l) (size 
       )
 
 -- ---- the statements
-module _ {s : State} {u t : List ℕ} {l : List Span} (r : Reached s u t l) (size bytes a z : ℕ) (rounds : rounded size (s .g) ≡ To bytes)
+module _ {s : State} {u t : List ℕ} {l : List Span} (r : Reached s u t l) (size bytes a z : ℕ) (rounds : rounded size (s .granularity) ≡ To bytes)
     (granted : step s u t (alloc size) .answer ≡ Granted (span a z)) where
   -- the state that the allocation leaves, and the one that the release leaves
   abbrev pub first : Turn
@@ -201,7 +201,7 @@ module _ {s : State} {u t : List ℕ} {l : List Span} (r : Reached s u t l) (siz
   second = step (first .state) (first .used) (first .stop) (release a)
 
   abbrev pool : ℕ
-  pool = poolOf bytes (s .g) (s .pools)
+  pool = poolOf bytes (s .granularity) (s .poolcount)
 
   entered : Reached (first .state) (first .used) (first .stop) (span a z ∷ l)
   entered = subst (λ (c : Answer). Reached (first .state) (first .used) (first .stop) (enter c l)) granted (called r (alloc size))
@@ -218,7 +218,7 @@ module _ {s : State} {u t : List ℕ} {l : List Span} (r : Reached s u t l) (siz
   ends = go (goes s u t size (reached-known r .sound .shape))
     where
       same : (b : ℕ) → Seeks s u t size b → b ≡ bytes
-      same b q = two-sizes (rounded size (s .g)) b bytes (q .is) rounds
+      same b q = two-sizes (rounded size (s .granularity)) b bytes (q .is) rounds
 
       go : Ways s u t size → Ends s u t pool first second
       go (refused c e turned) = absurd (refused-not (first .answer) (span a z) (pick (eqb c 1) InvalidArgument TooLarge) (ap (λ (y : Turn). y .answer) turned) granted)

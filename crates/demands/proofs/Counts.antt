@@ -65,23 +65,23 @@ module _ {s : State} {u t : List ℕ} {l : List Span} (r : Reached s u t l) wher
   live-is = k .sound .live
 
   -- a block's used count is the units of its pieces, and a pool's that of its blocks
-  pub used-is : (j : ℕ) → j < s .count → blockAt s j .used ≡ units (viewOf (s .g) (blockAt s j) l)
+  pub used-is : (j : ℕ) → j < s .count → blockAt s j .used ≡ units (viewOf (s .granularity) (blockAt s j) l)
   used-is j h = k .sound .agrees .each j h .count
 
-  pub pool-used-is : (p : ℕ) → p < 3 → poolAt s p .used ≡ sum (s .count) (λ j. only (inPool s p j) (units (viewOf (s .g) (blockAt s j) l)))
+  pub pool-used-is : (p : ℕ) → p < 3 → poolAt s p .used ≡ sum (s .count) (λ j. only (inPool s p j) (units (viewOf (s .granularity) (blockAt s j) l)))
   pool-used-is p h =
       ap (λ (q : Pool). q .used) (shaped s u t l (k .sound) (k .sized .blocks) .pools p h)
-      ∙ sum-same (s .count) (λ j. only (inPool s p j) (blockAt s j .used)) (λ j. only (inPool s p j) (units (viewOf (s .g) (blockAt s j) l))) (λ j q. ap (only (inPool s p j)) (used-is j q))
+      ∙ sum-same (s .count) (λ j. only (inPool s p j) (blockAt s j .used)) (λ j. only (inPool s p j) (units (viewOf (s .granularity) (blockAt s j) l))) (λ j q. ap (only (inPool s p j)) (used-is j q))
 
   -- all used units together are the bytes of the ledger
-  pub used-bytes : sum (s .count) (λ j. blockAt s j .used) * s .g ≡ bytesIn l
+  pub used-bytes : sum (s .count) (λ j. blockAt s j .used) * s .granularity ≡ bytesIn l
   used-bytes =
-      ap (λ (x : ℕ). x * s .g) (sum-same (s .count) (λ j. blockAt s j .used) (λ j. units (viewOf (s .g) (blockAt s j) l)) used-is)
-      ∙ all-bytes (s .g) (s .w) (s .slots) (s .count) (s .blocks) (length u) (length t) (stands s u t l (k .sound) (k .sized .blocks)) l (k .sound .agrees .homes)
+      ap (λ (x : ℕ). x * s .granularity) (sum-same (s .count) (λ j. blockAt s j .used) (λ j. units (viewOf (s .granularity) (blockAt s j) l)) used-is)
+      ∙ all-bytes (s .granularity) (s .w) (s .slots) (s .count) (s .blocks) (length u) (length t) (stands s u t l (k .sound) (k .sized .blocks)) l (k .sound .agrees .homes)
 
   -- both maps: a block's slot is what its pieces paint, a slot that no block has is clear
   pub maps-painted : (j : ℕ) → j < s .count
-      → Paints (viewOf (s .g) (blockAt s j) l) (blockAt s j .area) (slotOf (s .w) (blockAt s j .slot) u) (slotOf (s .w) (blockAt s j .slot) t)
+      → Paints (viewOf (s .granularity) (blockAt s j) l) (blockAt s j .area) (slotOf (s .w) (blockAt s j .slot) u) (slotOf (s .w) (blockAt s j .slot) t)
   maps-painted j h = k .sound .agrees .each j h .paints
 
   pub maps-clear : (i : ℕ) → i < s .slots → ((j : ℕ) → j < s .count → blockAt s j .slot ≡ i → ⊥) → Clear (slotOf (s .w) i u) × Clear (slotOf (s .w) i t)

@@ -9,7 +9,7 @@ use lib.ListN.{length}
 use Rattle.numbers.specs.Units.{unitsOf}
 use Rattle.block.specs.declared.Block.{Block}
 use Rattle.sizes.specs.declared.Rounded.{Rounded}
-use Rattle.sizes.specs.declared.Rounded.the-variants.{To, Refused as tooBad}
+use Rattle.sizes.specs.declared.Rounded.the-variants.{To, Refused as unroundable}
 use Rattle.sizes.specs.Pools.{poolOf}
 use Rattle.sizes.specs.Sizes.{rounded, idealSize}
 use Rattle.sizes.proofs.Pools.{pool-below}
@@ -31,7 +31,7 @@ use Rattle.shape_facts.proofs.Facts.{unit-g, pool-3}
 use Rattle.shape_facts.proofs.Search.{Left, Place as PlaceIn}
 use Rattle.shape_facts.proofs.Pool.{whole, units-kept}
 use Rattle.machine.specs.Turn.{Turn, span, unitOf}
-use Rattle.machine.specs.Alloc.{markTurn, makeTurn}
+use Rattle.machine.specs.Alloc.{allocMarked, allocMade}
 use Rattle.machine.specs.Machine.{alloc, step}
 use Rattle.shape_kept.proofs.Cases.{Seeks, Places, poolFor, unitsFor, searchFor, newSize}
 use Rattle.shape_kept.proofs.Sized.{sized-search}
@@ -40,7 +40,7 @@ use Rattle.ledger.specs.First.{First, FirstFrom}
 use Rattle.ledger.specs.Reached.{Reached}
 use Rattle.ledger.proofs.Search.{Combed}
 use Rattle.ledger.proofs.Finds.{shaped}
-use Rattle.ledger.proofs.Alloc.{Short, refused, hit, full, made, goes, Goes as Ways}
+use Rattle.ledger.proofs.Alloc.{Short, refused, hit, full, made, goes, Ways}
 use Rattle.ledger.proofs.Made.{made-answer, made-lies}
 use Rattle.ledger.proofs.Step.{combed, left}
 use Rattle.ledger.proofs.Reached.{Known, reached-known}
@@ -50,7 +50,7 @@ use Rattle.shape_facts.proofs.Alike.{slot-alike, place-alike, newest-alike}
 pub two-sizes : (x : Rounded) (a b : ℕ) → x ≡ To a → x ≡ To b → a ≡ b
 two-sizes x a b p q = cc
 
-size-refused : (x : Rounded) (a k : ℕ) → x ≡ To a → x ≡ tooBad k → ⊥
+size-refused : (x : Rounded) (a k : ℕ) → x ≡ To a → x ≡ unroundable k → ⊥
 size-refused x a k p q = let z : _≡_ {A = ℕ} 0 1 = cc in omega arith
 
 module _ {s : State} {u t : List ℕ} {l : List Span} (k : Known s u t l) (size bytes : ℕ) (q : Seeks s u t size bytes) where
@@ -72,11 +72,11 @@ module _ {s : State} {u t : List ℕ} {l : List Span} (k : Known s u t l) (size 
   abbrev lf : Left u (length t) p n (seeks-some s u t size bytes q) s (searchFor s u bytes)
   lf = left s u t l (k .sound) (k .sized) size bytes q
 
-  g-same : r .g ≡ s .g
-  g-same = ap (λ (c : State). c .g) (cb .only)
+  g-same : r .granularity ≡ s .granularity
+  g-same = ap (λ (c : State). c .granularity) (cb .only)
 
   -- the state that the search left finds slot, place and size as before
-  alike : (i : ℕ) → Same (blockAt (withTable s (s .count) (r .blocks) (s .order) (s .pool)) i) (blockAt s i)
+  alike : (i : ℕ) → Same (blockAt (withTable s (s .count) (r .blocks) (s .order) (s .pools)) i) (blockAt s i)
   alike i = lf .alike i
 
   size-same : newSize r p bytes ≡ sizeFor s p bytes
@@ -88,7 +88,7 @@ module _ {s : State} {u t : List ℕ} {l : List Span} (k : Known s u t l) (size 
   place-same : lowestPlace r (newSize r p bytes) ≡ lowestPlace s (sizeFor s p bytes)
   place-same = ap (lowestPlace r) size-same ∙ ap (λ (c : State). lowestPlace c (sizeFor s p bytes)) (cb .only) ∙ place-alike s (r .blocks) alike (sizeFor s p bytes)
 
-  unit-same : poolAt r p .granularity ≡ s .g
+  unit-same : poolAt r p .granularity ≡ s .granularity
   unit-same = unit-g r (length u) (length t) (lf .shaped) p (seeks-pool s u t size bytes q) ∙ g-same
 
   words-same : unitsOf (unitsOf (newSize r p bytes) (poolAt r p .granularity)) 32 ≡ wordsFor s p bytes
@@ -97,23 +97,23 @@ module _ {s : State} {u t : List ℕ} {l : List Span} (k : Known s u t l) (size 
   w-same : r .w ≡ s .w
   w-same = ap (λ (c : State). c .w) (cb .only)
 
-  taken : (j i : ℕ) → searchFor s u bytes .hit ≡ At j i → x ≡ markTurn r u t j i n → Taken s u p n x
+  taken : (j i : ℕ) → searchFor s u bytes .hit ≡ At j i → x ≡ allocMarked r u t j i n → Taken s u p n x
   taken j i e turned = record {
     block = j;
     unit = i;
     first = subst (FirstFrom s u p n 0) e (cb .first);
     answer =
         let h = subst (PlaceIn u (length t) p n (seeks-some s u t size bytes q) r) e (lf .place) .0 in
-        let unit : unitOf r (blockAt r j) ≡ s .g = unit-g r (length u) (length t) (lf .shaped) (blockAt r j .pool) (pool-3 r (length u) (length t) (lf .shaped) j h) ∙ g-same in
+        let unit : unitOf r (blockAt r j) ≡ s .granularity = unit-g r (length u) (length t) (lf .shaped) (blockAt r j .pool) (pool-3 r (length u) (length t) (lf .shaped) j h) ∙ g-same in
         ap (λ (y : Turn). y .answer) turned ∙ ap₂ (λ (b g : ℕ). Granted (span (b + i * g) (n * g))) (lf .alike j .base) unit;
     count = ap (λ (y : Turn). y .state .count) turned ∙ lf .count;
   }
 
-  make : (at slot : ℕ) → Places r p bytes at slot → x ≡ makeTurn r u t p n (newSize r p bytes) at slot → Made s p n bytes x
+  make : (at slot : ℕ) → Places r p bytes at slot → x ≡ allocMade r u t p n (newSize r p bytes) at slot → Made s p n bytes x
   make at slot m turned =
       let a = seeks-ready s u t size bytes q in
-      let pools : r .pools ≡ s .pools = ap (λ (c : State). c .pools) (cb .only) in
-      let p-low : p < r .pools = omega (arith, pools, pool-below bytes (s .g) (s .pools) (a .shaped .head .pools-listed)) in
+      let pools : r .poolcount ≡ s .poolcount = ap (λ (c : State). c .poolcount) (cb .only) in
+      let p-low : p < r .poolcount = omega (arith, pools, pool-below bytes (s .granularity) (s .poolcount) (a .shaped .head .pools-listed)) in
       let fits = units-kept s r (lf .pools) p p n n bytes refl refl (whole s (length u) (length t) bytes a) in
       let some = seeks-some s u t size bytes q in
       let z = sized-search s (k .sized) u p n in
@@ -121,7 +121,7 @@ module _ {s : State} {u t : List ℕ} {l : List Span} (k : Known s u t l) (size 
       let ag = cb .ready .agrees in
       let live = lf .live ∙ k .sound .live in
       let lies = made-lies r u t l (lf .shaped) z st ag live p n bytes at slot p-low some (a .some) (a .most) fits m in
-      let last : blockAt (x .state) (s .count) ≡ blockAt (makeTurn r u t p n (newSize r p bytes) at slot .state) (r .count) =
+      let last : blockAt (x .state) (s .count) ≡ blockAt (allocMade r u t p n (newSize r p bytes) at slot .state) (r .count) =
       ap₂ (λ (y : Turn) (c : ℕ). blockAt (y .state) c) turned (sym (lf .count)) in
       record {
         place = at;
@@ -147,15 +147,15 @@ module _ {s : State} {u t : List ℕ} {l : List Span} (k : Known s u t l) (size 
   none e = subst (FirstFrom s u p n 0) e (cb .first)
 
 -- ---- the statements
-module _ {s : State} {u t : List ℕ} {l : List Span} (r : Reached s u t l) (size bytes : ℕ) (rounds : rounded size (s .g) ≡ To bytes) where
+module _ {s : State} {u t : List ℕ} {l : List Span} (r : Reached s u t l) (size bytes : ℕ) (rounds : rounded size (s .granularity) ≡ To bytes) where
   abbrev known : Known s u t l
   known = reached-known r
 
   abbrev pool : ℕ
-  pool = poolOf bytes (s .g) (s .pools)
+  pool = poolOf bytes (s .granularity) (s .poolcount)
 
   abbrev units : ℕ
-  units = unitsOf bytes (s .g)
+  units = unitsOf bytes (s .granularity)
 
   abbrev after : Turn
   after = step s u t (alloc size)
@@ -171,10 +171,10 @@ module _ {s : State} {u t : List ℕ} {l : List Span} (r : Reached s u t l) (siz
   alloc-goes = subst (λ (n : ℕ). Goes s u pool n bytes after) units-same (go (goes s u t size (known .sound .shape)))
     where
       same : (b : ℕ) → Seeks s u t size b → b ≡ bytes
-      same b q = two-sizes (rounded size (s .g)) b bytes (q .is) rounds
+      same b q = two-sizes (rounded size (s .granularity)) b bytes (q .is) rounds
 
       go : Ways s u t size → Goes s u pool (unitsFor s bytes) bytes after
-      go (refused c e q) = absurd (size-refused (rounded size (s .g)) bytes c rounds e)
+      go (refused c e q) = absurd (size-refused (rounded size (s .granularity)) bytes c rounds e)
       go (hit b j i q e turned) = subst (λ (b : ℕ). Goes s u (poolFor s b) (unitsFor s b) b after) (same b q) (inl (taken known size b q j i e turned))
       go (full b q e why turned) =
           subst (λ (b : ℕ). Goes s u (poolFor s b) (unitsFor s b) b after) (same b q)

@@ -12,7 +12,7 @@ use Rattle.state.specs.declared.State.{State}
 use Rattle.state.specs.Table.{blockAt, poolAt, one}
 use Rattle.state.specs.Shape.{isEmpty}
 use Rattle.machine.specs.Turn.{withLive}
-use Rattle.machine.specs.Alloc.{markTurn}
+use Rattle.machine.specs.Alloc.{allocMarked}
 use Rattle.machine.specs.Release.{lessUsed}
 use Rattle.shape_kept.specs.Sized.{Sized}
 use Rattle.shape_kept.proofs.After.{put-pool}
@@ -29,7 +29,7 @@ released-used b i e =
 -- ---- a span marked in block j
 module _ (s : State) (z : Sized s) (u t : List ℕ) (j i n : ℕ) where
   pub marked-empty : blockAt s j .pool < 3
-      → poolAt (markTurn s u t j i n .state) (blockAt s j .pool) .empty ≡ poolAt s (blockAt s j .pool) .empty - one (isEmpty (blockAt s j))
+      → poolAt (allocMarked s u t j i n .state) (blockAt s j .pool) .empty ≡ poolAt s (blockAt s j .pool) .empty - one (isEmpty (blockAt s j))
   marked-empty h = ap (λ (q : Pool). q .empty) (put-pool s z (blockAt s j .pool) _ h)
 
 -- ---- units of block j made free, whose record becomes c

@@ -21,7 +21,7 @@ use Rattle.machine.specs.Machine.{Call, create, alloc, release, shrink, query, 
 use Rattle.shape_kept.proofs.Cases.{create-cases}
 use Rattle.ledger.specs.Reached.{Reached}
 use Rattle.ledger.proofs.Finds.{not-bad, shrink-release}
-use Rattle.ledger.proofs.Alloc.{Goes, refused, hit, full, made, goes}
+use Rattle.ledger.proofs.Alloc.{Ways, refused, hit, full, made, goes}
 use Rattle.ledger.proofs.Reached.{Known, reached-known}
 use Rattle.demands.proofs.Answers.{Queried, unknown, known, queried, GivenBack, zero-address, no-block, no-span, struck, given-back, CutDown, too-many, shortened, cut-down}
 
@@ -78,7 +78,7 @@ module _ {s : State} {u t : List ℕ} {l : List Span} (k : Known s u t l) where
   alloc-sane : (size : ℕ) → Sane (allocTurn s u t size .answer)
   alloc-sane size = go (goes s u t size (k .sound .shape))
     where
-      go : Goes s u t size → Sane (allocTurn s u t size .answer)
+      go : Ways s u t size → Sane (allocTurn s u t size .answer)
       go (refused n e q) = turned q (size-sane (eqb n 1))
       go (hit bytes j i m e q) = turned q tt
       go (full bytes m e why q) = turned q tt

@@ -28,8 +28,8 @@ use Rattle.state.proofs.Tests.{sum-term}
 use Rattle.shape.specs.Shaped.{Shaped}
 use Rattle.shape_facts.proofs.Facts.{pool-3, count-64}
 use Rattle.machine.specs.Turn.{Turn, turn, span, unitOf}
-use Rattle.machine.specs.Alloc.{markTurn}
-use Rattle.machine.specs.Release.{freeTurn}
+use Rattle.machine.specs.Alloc.{allocMarked}
+use Rattle.machine.specs.Release.{releaseUnits}
 use Rattle.ledger.proofs.Back.{used-back, stop-back}
 use Rattle.ledger.proofs.Lies.{Lies, marked-lies, released-lies}
 use Rattle.shape_kept.specs.Sized.{Sized}
@@ -73,7 +73,7 @@ only-one true n h g = absurd (omega arith)
 only-one false n h g = (omega arith, refl)
 
 module _ (r : State) (u t : List ℕ) (l : List Span) (f : Shaped r (length u) (length t)) (z : Sized r)
-    (st : Stands (r .g) (r .w) (r .slots) (r .count) (r .blocks) (length u) (length t)) (ag : Agrees (r .g) (r .w) (r .slots) (r .count) (r .blocks) u t l)
+    (st : Stands (r .granularity) (r .w) (r .slots) (r .count) (r .blocks) (length u) (length t)) (ag : Agrees (r .granularity) (r .w) (r .slots) (r .count) (r .blocks) u t l)
     (wu : Words u) (wt : Words t) (j i n a : ℕ) (h : j < r .count) (pos : 0 < n) (fits : i + n ≤ blockAt r j .area)
     (free : FreeAt (slotOf (r .w) (blockAt r j .slot) u) n i) where
   abbrev b : Block
@@ -83,7 +83,7 @@ module _ (r : State) (u t : List ℕ) (l : List Span) (f : Shaped r (length u) (
   k = blockAt r j .slot
 
   abbrev x : Turn
-  x = markTurn r u t j i n
+  x = allocMarked r u t j i n
 
   abbrev b1 : Block
   b1 = blockAt (x .state) j
@@ -101,10 +101,10 @@ module _ (r : State) (u t : List ℕ) (l : List Span) (f : Shaped r (length u) (
   marked-sized = sized-live _ (sized-pool _ (sized-block r z j _) _ _) _
 
   lu : length pu ≡ r .w
-  lu = part-u (r .g) (r .w) (r .slots) (r .count) (r .blocks) u t st l ag j h
+  lu = part-u (r .granularity) (r .w) (r .slots) (r .count) (r .blocks) u t st l ag j h
 
   lt : length pt ≡ r .w
-  lt = part-t (r .g) (r .w) (r .slots) (r .count) (r .blocks) u t st l ag j h
+  lt = part-t (r .granularity) (r .w) (r .slots) (r .count) (r .blocks) u t st l ag j h
 
   lies-1 : Lies b1 b
   lies-1 = lies-trans (lies-refl (put-block r z j (marked b i (i + n)) low)) (marked-lies b i (i + n))
@@ -125,7 +125,7 @@ module _ (r : State) (u t : List ℕ) (l : List Span) (f : Shaped r (length u) (
       ap (λ (q : ℕ). fillSlot (r .w) q (x .stop) (i + n - 1) 1 0) (lies-1 .slot)
       ∙ undone (r .w) k t (i + n - 1) 1 0 (slot-room (r .w) (r .slots) k (length t) (st .slot j h) (st .stop-room)) (filled pt (i + n - 1) 1 1)
       (length-filled pt (i + n - 1) 1 1 ∙ lt)
-      (stop-back (viewOf (r .g) b l) (b .area) pu pt (ag .each j h .paints) (words-slot (r .w) k t wt) i (i + n) (omega arith) (omega (arith, lt, st .fits j h)) free-up)
+      (stop-back (viewOf (r .granularity) b l) (b .area) pu pt (ag .each j h .paints) (words-slot (r .w) k t wt) i (i + n) (omega arith) (omega (arith, lt, st .fits j h)) free-up)
 
   -- ---- the blocks
   abbrev c : Block
@@ -201,6 +201,6 @@ module _ (r : State) (u t : List ℕ) (l : List Span) (f : Shaped r (length u) (
         stop = ap₂ (λ (w k : ℕ). slotOf w k y) ew (e .slot) ∙ ap (slotOf (r .w) (blockAt r q .slot)) stop-again;
       }
 
-  pub marked-back : Kept (freeTurn (x .state) (x .used) (x .stop) a j i (i + n))
+  pub marked-back : Kept (releaseUnits (x .state) (x .used) (x .stop) a j i (i + n))
   marked-back =
       settle-cases Kept after v y answer j (λ q. (all-stood after refl refl, refl)) (λ none goes. absurd (stays none goes)) (λ none e o. (all-stood _ refl refl, refl))

@@ -16,7 +16,7 @@ use Rattle.state.specs.declared.Answer.the-variants.{Granted}
 use Rattle.state.specs.Table.{blockAt}
 use Rattle.machine.specs.Turn.{span}
 use Rattle.machine.specs.Machine.{alloc, step}
-use Rattle.ledger.proofs.Sound.{sound-windowed}
+use Rattle.ledger.proofs.SoundBlock.{sound-windowed}
 use Rattle.ledger.specs.Ledger.{enter}
 use Rattle.ledger.specs.Agrees.{viewOf}
 use Rattle.ledger.specs.First.{LowestPlace}
@@ -38,8 +38,8 @@ module _ {s : State} {u t : List ℕ} {l : List Span} (r : Reached s u t l) wher
       let f = shaped s u t l (k .sound) (k .sized .blocks) in
       let st = stands s u t l (k .sound) (k .sized .blocks) in
       look-found (s .w) b u n
-      (sound-windowed b (slotOf (s .w) (b .slot) u) (slotOf (s .w) (b .slot) t) (viewOf (s .g) b l) (k .sound .agrees .each j h)
-      (room-u (s .g) (s .w) (s .slots) (s .count) (s .blocks) u t st l (k .sound .agrees) j h) (f .sound j h .end)) pos i
+      (sound-windowed b (slotOf (s .w) (b .slot) u) (slotOf (s .w) (b .slot) t) (viewOf (s .granularity) b l) (k .sound .agrees .each j h)
+      (room-u (s .granularity) (s .w) (s .slots) (s .count) (s .blocks) u t st l (k .sound .agrees) j h) (f .sound j h .end)) pos i
 
   -- an allocation enters just its answer, at an address where the ledger had none
   pub alloc-enters : (size a z : ℕ) → step s u t (alloc size) .answer ≡ Granted (span a z)

@@ -12,7 +12,7 @@ use Rattle.block.specs.declared.Block.{Block}
 use Rattle.state.specs.declared.State.{State}
 use Rattle.state.specs.declared.Span.{Span}
 use Rattle.state.specs.Table.{blockAt}
-use Rattle.ledger.specs.Paint.{Piece, piece, held, Inside as InsideArea, In as InPieces}
+use Rattle.ledger.specs.Paint.{Piece, piece, holders, InsideArea, InPieces}
 use Rattle.ledger.proofs.Pieces.{has-in, in-inside, in-held}
 use Rattle.ledger.proofs.Paints.{held-one}
 use Rattle.ledger.specs.Ledger.{In}
@@ -24,13 +24,13 @@ use Rattle.ledger.proofs.Table.{Stands, Beside, home-of}
 use Rattle.ledger.proofs.Look.{seen, seen-here}
 use Rattle.ledger.proofs.Finds.{shaped, stands}
 use Rattle.ledger.proofs.Reached.{Known, reached-known}
-use Rattle.demands.specs.Apart.{Apart, Inside}
+use Rattle.demands.specs.Apart.{Apart, InsideBlock}
 
 -- ---- pieces
 -- two pieces of a list that holds no unit twice
-pieces-apart : (x : Piece) (v : List Piece) (i n : ℕ) → 0 < x .len → 0 < n → InPieces i n v → ((k : ℕ) → held (x ∷ v) k < 2)
+pieces-apart : (x : Piece) (v : List Piece) (i n : ℕ) → 0 < x .len → 0 < n → InPieces i n v → ((k : ℕ) → holders (x ∷ v) k < 2)
     → (x .start + x .len ≤ i) ⊎ (i + n ≤ x .start)
-unfolding held
+unfolding holders
 pieces-apart x v i n a b m f =
     by-le (x .start + x .len) i inl
     (λ p. by-le (i + n) (x .start) inr
@@ -39,10 +39,10 @@ pieces-apart x v i n a b m f =
     (λ r. absurd (omega (arith, f (x .start), has-in x (x .start) (omega arith) (omega arith), in-held v i n (x .start) m (omega arith) q)))))
 
 -- a span less in the ledger
-view-held : (g : ℕ) (b : Block) (x : Span) (l : List Span) → ((k : ℕ) → held (viewOf g b (x ∷ l)) k < 2) → (k : ℕ) → held (viewOf g b l) k < 2
-unfolding view held
+view-held : (g : ℕ) (b : Block) (x : Span) (l : List Span) → ((k : ℕ) → holders (viewOf g b (x ∷ l)) k < 2) → (k : ℕ) → holders (viewOf g b l) k < 2
+unfolding view holders
 view-held g b x l f k =
-    picked (λ (m : List Piece). held m k < 2 → held (viewOf g b l) k < 2) (within (b .base) (b .size) (x .address)) _ _ (λ e p. omega (arith, p)) (λ e p. p) (f k)
+    picked (λ (m : List Piece). holders m k < 2 → holders (viewOf g b l) k < 2) (within (b .base) (b .size) (x .address)) _ _ (λ e p. omega (arith, p)) (λ e p. p) (f k)
 
 module _ (g w slots n : ℕ) (bs : List Block) (lu lt : ℕ) (st : Stands g w slots n bs lu lt) where
   -- units of a block that fit its area are bytes of it
@@ -50,7 +50,7 @@ module _ (g w slots n : ℕ) (bs : List Block) (lu lt : ℕ) (st : Stands g w sl
   bytes-in j i m h f = omega (arith, mul-le-mul-right {m = i + m} {n = at bs j .area} g f, st .whole j h)
 
   spans-apart : (l : List Span) → Homes g n bs l → ((j : ℕ) → j < n → InsideArea (viewOf g (at bs j) l) (at bs j .area))
-      → ((j : ℕ) → j < n → (k : ℕ) → held (viewOf g (at bs j) l) k < 2) → Apart l
+      → ((j : ℕ) → j < n → (k : ℕ) → holders (viewOf g (at bs j) l) k < 2) → Apart l
   spans-apart [] h f o = tt
   spans-apart (x ∷ l) h f o = (
     λ a size mem.
@@ -72,7 +72,7 @@ module _ (g w slots n : ℕ) (bs : List Block) (lu lt : ℕ) (st : Stands g w sl
         (λ c. inl (omega (arith, y .3, y .4, z .3, same, mul-le-mul-right {m = y .0 + y .1} {n = z .0} g c)))
         (λ c. inr (omega (arith, y .3, z .3, z .4, same, mul-le-mul-right {m = z .0 + z .1} {n = y .0} g c)))
         (pieces-apart (piece (y .0) (y .1)) (viewOf g (at bs j) l) (z .0) (z .1) (fx .0) (fm .0) mj
-        (λ k. subst (λ (m : List Piece). held m k < 2) v (o j p k))))
+        (λ k. subst (λ (m : List Piece). holders m k < 2) v (o j p k))))
         (λ ne.
         let bx = bytes-in j (y .0) (y .1) p (fx .1) in
         let bm = bytes-in (r .0) (z .0) (z .1) q (fm .1) in
@@ -87,28 +87,28 @@ module _ {s : State} {u t : List ℕ} {l : List Span} (k : Known s u t l) where
   abbrev len : length (s .blocks) ≡ 64
   len = k .sized .blocks
 
-  abbrev st : Stands (s .g) (s .w) (s .slots) (s .count) (s .blocks) (length u) (length t)
+  abbrev st : Stands (s .granularity) (s .w) (s .slots) (s .count) (s .blocks) (length u) (length t)
   st = stands s u t l (k .sound) (k .sized .blocks)
 
   pub known-apart : Apart l
   known-apart =
       let o = k .sound .agrees in
-      spans-apart (s .g) (s .w) (s .slots) (s .count) (s .blocks) (length u) (length t) st l (o .homes) (λ j p. o .each j p .paints .inside)
-      (λ j p. held-one (viewOf (s .g) (blockAt s j) l) (blockAt s j .area) _ _ (o .each j p .paints))
+      spans-apart (s .granularity) (s .w) (s .slots) (s .count) (s .blocks) (length u) (length t) st l (o .homes) (λ j p. o .each j p .paints .inside)
+      (λ j p. held-one (viewOf (s .granularity) (blockAt s j) l) (blockAt s j .area) _ _ (o .each j p .paints))
 
-  pub known-inside : (a size : ℕ) → In a size l → (j : ℕ) × Inside s a size j
+  pub known-inside : (a size : ℕ) → In a size l → (j : ℕ) × InsideBlock s a size j
   known-inside a size mem =
       let o = k .sound .agrees in
-      let y = seen (s .g) (s .w) (s .slots) (s .count) (s .blocks) u t st l o a size mem in
+      let y = seen (s .granularity) (s .w) (s .slots) (s .count) (s .blocks) u t st l o a size mem in
       let j = y .block in
-      let f = in-inside (viewOf (s .g) (blockAt s j) l) (blockAt s j .area) (y .unit) (y .units) (o .each j (y .known) .paints .inside) (y .piece) in (
+      let f = in-inside (viewOf (s .granularity) (blockAt s j) l) (blockAt s j .area) (y .unit) (y .units) (o .each j (y .known) .paints .inside) (y .piece) in (
         j,
         record {
           stands = y .known;
           some = omega (arith, y .size, mul-lt-mul-of-pos-right (f .0) (st .unit));
           low = omega (arith, y .address);
-          high = omega (arith, y .address, y .size, bytes-in (s .g) (s .w) (s .slots) (s .count) (s .blocks) (length u) (length t) st j (y .unit) (y .units) (y .known) (f .1));
-          one = λ i h e. sym (seen-here (s .g) (s .w) (s .slots) (s .count) (s .blocks) u t st l o a size i y h e);
+          high = omega (arith, y .address, y .size, bytes-in (s .granularity) (s .w) (s .slots) (s .count) (s .blocks) (length u) (length t) st j (y .unit) (y .units) (y .known) (f .1));
+          one = λ i h e. sym (seen-here (s .granularity) (s .w) (s .slots) (s .count) (s .blocks) u t st l o a size i y h e);
         },
       )
 
@@ -128,7 +128,7 @@ module _ {s : State} {u t : List ℕ} {l : List Span} (r : Reached s u t l) wher
   pub spans-lie-apart : Apart l
   spans-lie-apart = known-apart (reached-known r)
 
-  pub span-in-one-block : (a size : ℕ) → In a size l → (j : ℕ) × Inside s a size j
+  pub span-in-one-block : (a size : ℕ) → In a size l → (j : ℕ) × InsideBlock s a size j
   span-in-one-block = known-inside (reached-known r)
 
   pub one-entry : (a z z′ : ℕ) → In a z l → In a z′ l → z ≡ z′

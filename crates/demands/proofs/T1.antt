@@ -7,7 +7,7 @@ use Rattle.bits.specs.Bits.{digit, bit, put, setBit, filled}
 use Rattle.bits.proofs.Filled.{words-zeros}
 use Rattle.runs.specs.Seek.{freeFrom, lowestFit, longestRun, lastEnd, seek}
 use Rattle.block.specs.Marking.{moved, marked, released}
-use Rattle.block.specs.Search.{looks, lookInto}
+use Rattle.block.specs.Search.{worthSearching, lookInto}
 use Rattle.sizes.specs.Limits.{isGranularity, granularityInForce, isPowerBelow, isBaseSize, baseSizeInForce}
 use Rattle.sizes.specs.Pools.{poolOf}
 use Rattle.sizes.specs.Sizes.{rounded, idealSize}
@@ -38,7 +38,7 @@ leads r [] = r
 leads r (c ∷ cs) = leads (called r c) cs
 
 unfoldable pub asked : Asked
-asked = record { size = 65536; g = 64; flags = 0; w = 256; arena = 4194304; length = 1048576 }
+asked = record { size = 65536; granularity = 64; flags = 0; w = 256; arena = 4194304; length = 1048576 }
 
 unfoldable pub first : Turn
 first = createTurn asked (replicate 8192 0) (replicate 8192 0)
@@ -64,5 +64,5 @@ ledgerOf s u t l [] = l
 ledgerOf s u t l (c ∷ cs) = ledgerOf (step s u t c .state) (step s u t c .used) (step s u t c .stop) (enter (step s u t c .answer) l) cs
 
 written : ledgerOf (first .state) (first .used) (first .stop) [] before ≡ span 4194496 128 ∷ span 4194304 64 ∷ span 4194432 64 ∷ []
-unfolding first asked before ledgerOf strike createTurn isGranularity granularityInForce isPowerBelow isBaseSize baseSizeInForce digit bit put setBit filled freeFrom lowestFit longestRun lastEnd seek moved marked released looks lookInto poolOf rounded idealSize all sum clauses leastFrom latest listFrom searchFrom allocTurn queryTurn releaseTurn shrinkTurn clearBlocks kept resetTurn
+unfolding first asked before ledgerOf strike createTurn isGranularity granularityInForce isPowerBelow isBaseSize baseSizeInForce digit bit put setBit filled freeFrom lowestFit longestRun lastEnd seek moved marked released worthSearching lookInto poolOf rounded idealSize all sum clauses leastFrom latest listFrom searchFrom allocTurn queryTurn releaseTurn shrinkTurn clearBlocks kept resetTurn
 written = refl

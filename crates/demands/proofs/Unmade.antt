@@ -28,8 +28,8 @@ use Rattle.state.specs.Change.{inserted, removed}
 use Rattle.shape.specs.Shaped.{Shaped}
 use Rattle.shape.proofs.Bools.{or-cases}
 use Rattle.machine.specs.Turn.{Turn, turn, span, unitOf, clearSlot}
-use Rattle.machine.specs.Alloc.{makeTurn}
-use Rattle.machine.specs.Release.{freeTurn}
+use Rattle.machine.specs.Alloc.{allocMade}
+use Rattle.machine.specs.Release.{releaseUnits}
 use Rattle.ledger.proofs.Lies.{Lies, released-lies}
 use Rattle.shape_kept.specs.Sized.{Sized}
 use Rattle.shape_kept.proofs.Cases.{Places, newSize, settle-cases}
@@ -52,9 +52,9 @@ filled-away w slots k ws i n v h room q p ne =
     slot-other w k q ws (filled (slotOf w k ws) i n v) rk (length-filled (slotOf w k ws) i n v ∙ length-slot w k ws rk) ne (slot-room w slots q (length ws) p room)
 
 module _ (r : State) (u t : List ℕ) (l : List Span) (f : Shaped r (length u) (length t)) (z : Sized r)
-    (st : Stands (r .g) (r .w) (r .slots) (r .count) (r .blocks) (length u) (length t)) (ag : Agrees (r .g) (r .w) (r .slots) (r .count) (r .blocks) u t l)
+    (st : Stands (r .granularity) (r .w) (r .slots) (r .count) (r .blocks) (length u) (length t)) (ag : Agrees (r .granularity) (r .w) (r .slots) (r .count) (r .blocks) u t l)
     (live : r .live ≡ length l)
-    (p n bytes place slot : ℕ) (p-low : p < r .pools) (some : 0 < n) (asked : 0 < bytes) (most : bytes ≤ 2147483647) (fits : n * poolAt r p .granularity ≤ bytes)
+    (p n bytes place slot : ℕ) (p-low : p < r .poolcount) (some : 0 < n) (asked : 0 < bytes) (most : bytes ≤ 2147483647) (fits : n * poolAt r p .granularity ≤ bytes)
     (k : Places r p bytes place slot) (a : ℕ) where
   abbrev new : Block
   new = fresh place (newSize r p bytes) p slot (unitsOf (newSize r p bytes) (poolAt r p .granularity)) n
@@ -63,7 +63,7 @@ module _ (r : State) (u t : List ℕ) (l : List Span) (f : Shaped r (length u) (
   with = inserted r new
 
   abbrev x : Turn
-  x = makeTurn r u t p n (newSize r p bytes) place slot
+  x = allocMade r u t p n (newSize r p bytes) place slot
 
   abbrev j : ℕ
   j = r .count
@@ -219,7 +219,7 @@ module _ (r : State) (u t : List ℕ) (l : List Span) (f : Shaped r (length u) (
       ⊎-elim (λ c. inl (λ q. eqb-false (poolAt after (blockAt after (r .count) .pool) .empty) 0 (not-true (eqb (poolAt after (blockAt after (r .count) .pool) .empty) 0) c) (empty-here ∙ q)))
       (λ c. inr c) (or-cases (not (eqb (poolAt after (blockAt after (r .count) .pool) .empty) 0)) (r .immediate) e)
 
-  pub made-back : Outcome (freeTurn (x .state) (x .used) (x .stop) a (r .count) 0 (0 + n))
+  pub made-back : Outcome (releaseUnits (x .state) (x .used) (x .stop) a (r .count) 0 (0 + n))
   made-back =
       settle-cases Outcome after v y answer (r .count) (λ ne. absurd (ne unused))
       (λ none goes. (

@@ -21,7 +21,7 @@ pub record Taken (s : State) (u : List ℕ) (p n : ℕ) (x : Turn) : Type 0 wher
   pub block : ℕ
   pub unit : ℕ
   pub first : First s u p n (At block unit)
-  pub answer : x .answer ≡ Granted (span (blockAt s block .base + bytesOf unit (s .g)) (bytesOf n (s .g)))
+  pub answer : x .answer ≡ Granted (span (blockAt s block .base + bytesOf unit (s .granularity)) (bytesOf n (s .granularity)))
   pub count : x .state .count ≡ s .count
 
 -- ---- a new block: its size, and the words that its units take
@@ -29,7 +29,7 @@ abbrev pub sizeFor : State → ℕ → ℕ → ℕ
 sizeFor s p bytes = idealSize (newestSize s p) bytes
 
 abbrev pub wordsFor : State → ℕ → ℕ → ℕ
-wordsFor s p bytes = unitsOf (unitsOf (sizeFor s p bytes) (s .g)) 32
+wordsFor s p bytes = unitsOf (unitsOf (sizeFor s p bytes) (s .granularity)) 32
 
 -- at the lowest place and in the lowest slot, with the span at its unit 0
 pub record Made (s : State) (p n bytes : ℕ) (x : Turn) : Type 0 where
@@ -38,7 +38,7 @@ pub record Made (s : State) (p n bytes : ℕ) (x : Turn) : Type 0 where
   pub lowest-place : lowestPlace s (sizeFor s p bytes) ≡ Address place
   pub lowest-slot : lowestSlot s ≡ slotAt slot
   pub words : wordsFor s p bytes ≤ s .w
-  pub answer : x .answer ≡ Granted (span place (bytesOf n (s .g)))
+  pub answer : x .answer ≡ Granted (span place (bytesOf n (s .granularity)))
   pub count : x .state .count ≡ s .count + 1
   pub base-is : blockAt (x .state) (s .count) .base ≡ place
   pub size-is : blockAt (x .state) (s .count) .size ≡ sizeFor s p bytes

@@ -16,7 +16,7 @@ Apart [] = Unit {0}
 Apart (x ∷ l) = ((a size : ℕ) → In a size l → (x .address + x .size ≤ a) ⊎ (a + size ≤ x .address)) × Apart l
 
 -- the size bytes at a, one at least, lie in block j, and no other block holds the address
-pub record Inside (s : State) (a size j : ℕ) : Type 0 where
+pub record InsideBlock (s : State) (a size j : ℕ) : Type 0 where
   pub stands : j < s .count
   pub some : 0 < size
   pub low : blockAt s j .base ≤ a
@@ -24,8 +24,8 @@ pub record Inside (s : State) (a size j : ℕ) : Type 0 where
   pub one : (k : ℕ) → k < s .count → holds (blockAt s k) a ≡ true → k ≡ j
 
 -- a standing block holds the address
-abbrev pub Held : State → ℕ → Type 0
-Held s a = (j : ℕ) × (j < s .count) × (holds (blockAt s j) a ≡ true)
+abbrev pub HasBlock : State → ℕ → Type 0
+HasBlock s a = (j : ℕ) × (j < s .count) × (holds (blockAt s j) a ≡ true)
 
 -- the ledger has no entry at a
 abbrev pub Vacant : List Span → ℕ → Type 0

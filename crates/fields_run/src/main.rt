@@ -55,8 +55,8 @@ fn block_line(age: u64, used: u64, stop: u64, b: Block) {
 fn show_pools(s: State) {
     let mut k: usize = 0;
     while k < 3 {
-        if k < s.pools {
-            pool_line(k, s.pool[k]);
+        if k < s.poolcount {
+            pool_line(k, s.pools[k]);
         }
         k += 1;
     }

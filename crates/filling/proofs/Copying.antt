@@ -19,7 +19,7 @@ use Rattle.state.specs.Shape.{badShape}
 use Rattle.machine.specs.Turn.{Turn}
 use Rattle.machine.specs.Span.{queryTurn}
 use Rattle.shape_kept.proofs.Cases.{query-cases}
-use Rattle.filling.specs.Within.{Within}
+use Rattle.filling.specs.InArena.{InArena}
 use Rattle.filling.proofs.Inside.{span-inside}
 use Rattle.filling.proofs.Lent.{lent-refused, lent-granted, lent-cases}
 use Rattle.filling.specs.Copying.{fits, written, lookedUp}
@@ -36,7 +36,7 @@ IfShown P (Refused why) = Unit {0}
 
 -- it lies in the range, and starts at the address that was asked for
 abbrev pub Lies : ℕ → ℕ → ℕ → Span → Type 0
-Lies arena room a x = Within arena room x × (x .address ≡ a)
+Lies arena room a x = InArena arena room x × (x .address ≡ a)
 
 module _ (s : State) (u t : List ℕ) (room a : ℕ) where
   -- an image of the arena's length: as a query

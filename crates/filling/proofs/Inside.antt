@@ -18,7 +18,7 @@ use Rattle.machine.specs.Turn.{span, unitOf}
 use Rattle.shape_facts.proofs.Facts.{unit-g, pool-3, found-in, held-is}
 use Rattle.shape_kept.proofs.Cases.{Holds}
 use Rattle.filling.specs.Unused.{bytesOfBlock, blocksUpTo, made}
-use Rattle.filling.specs.Within.{Within, AllWithin}
+use Rattle.filling.specs.InArena.{InArena, AllInArena}
 
 -- ---- a span that stands at an address
 module _ (s : State) (u t : List ℕ) (a j i e : ℕ) (h : Holds s u t a j i e) where
@@ -41,11 +41,11 @@ module _ (s : State) (u t : List ℕ) (a j i e : ℕ) (h : Holds s u t a j i e) 
         omega (arith, low, r .0, sum, mul-le-mul-right unit (r .2), ap (λ (k : ℕ). blockAt s j .area * k) g, b .area-size, b .below),
       )
 
-  pub span-inside : Within (s .arena) (s .length) (span a (bytesOf (e - i) unit))
+  pub span-inside : InArena (s .arena) (s .length) (span a (bytesOf (e - i) unit))
   span-inside = record { low = ends .0; high = ends .1; top = omega (arith, ends .1, shaped .head .top) }
 
   -- and so does what is behind its first n units
-  pub tail-inside : (n : ℕ) → n ≤ e - i → Within (s .arena) (s .length) (span (a + bytesOf n unit) (bytesOf (e - i) unit - bytesOf n unit))
+  pub tail-inside : (n : ℕ) → n ≤ e - i → InArena (s .arena) (s .length) (span (a + bytesOf n unit) (bytesOf (e - i) unit - bytesOf n unit))
   tail-inside n l = record {
     low = omega (arith, ends .0);
     high = omega (arith, ends .1, mul-le-mul-right unit l);
@@ -53,20 +53,20 @@ module _ (s : State) (u t : List ℕ) (a j i e : ℕ) (h : Holds s u t a j i e) 
   }
 
 -- ---- blocks
-block-inside : (r : State) (u t : ℕ) → Shaped r u t → (i : ℕ) → i < r .count → Within (r .arena) (r .length) (bytesOfBlock (blockAt r i))
+block-inside : (r : State) (u t : ℕ) → Shaped r u t → (i : ℕ) → i < r .count → InArena (r .arena) (r .length) (bytesOfBlock (blockAt r i))
 block-inside r u t f i h = record { low = f .sound i h .above; high = f .sound i h .below; top = omega (arith, f .sound i h .below, f .head .top) }
 
-within-snoc : (arena length : ℕ) (xs : List Span) (x : Span) → AllWithin arena length xs → Within arena length x → AllWithin arena length (xs ++ (x ∷ []))
+within-snoc : (arena length : ℕ) (xs : List Span) (x : Span) → AllInArena arena length xs → InArena arena length x → AllInArena arena length (xs ++ (x ∷ []))
 within-snoc arena length [] x w o = (o, tt)
 within-snoc arena length (y ∷ xs) x w o = (w .0, within-snoc arena length xs x (w .1) o)
 
-pub blocks-inside : (r : State) (u t : ℕ) → Shaped r u t → (n : ℕ) → n ≤ r .count → AllWithin (r .arena) (r .length) (blocksUpTo r n)
+pub blocks-inside : (r : State) (u t : ℕ) → Shaped r u t → (n : ℕ) → n ≤ r .count → AllInArena (r .arena) (r .length) (blocksUpTo r n)
 unfolding blocksUpTo
 blocks-inside r u t f zero h = tt
 blocks-inside r u t f (suc n) h =
     within-snoc (r .arena) (r .length) (blocksUpTo r n) (bytesOfBlock (blockAt r n)) (blocks-inside r u t f n (omega (arith, h))) (block-inside r u t f n (omega (arith, h)))
 
-pub made-inside : (r : State) (u t : ℕ) → Shaped r u t → (before : ℕ) → AllWithin (r .arena) (r .length) (made before r)
+pub made-inside : (r : State) (u t : ℕ) → Shaped r u t → (before : ℕ) → AllInArena (r .arena) (r .length) (made before r)
 made-inside r u t f before =
-    picked (AllWithin (r .arena) (r .length)) (ltb before (r .count)) (bytesOfBlock (blockAt r before) ∷ []) []
+    picked (AllInArena (r .arena) (r .length)) (ltb before (r .count)) (bytesOfBlock (blockAt r before) ∷ []) []
     (λ e. (block-inside r u t f before (ltb-true before (r .count) e), tt)) (λ e. tt)

@@ -27,10 +27,10 @@ use Rattle.state.specs.Shape.{goodShape, badShape}
 use Rattle.state.specs.Find.{lookup}
 use Rattle.shape.proofs.Shaped.{shaped-is}
 use Rattle.machine.specs.Turn.{Turn, turn, refuse, span, withLive, unitOf}
-use Rattle.machine.specs.Span.{shownTurn, queriedTurn, queryTurn}
-use Rattle.machine.specs.Alloc.{markTurn, makeTurn, allocTurn}
-use Rattle.machine.specs.Release.{lessUsed, settle, freeTurn, releaseTurn}
-use Rattle.machine.specs.Shrink.{cutDownTurn, shrinkTurn}
+use Rattle.machine.specs.Span.{queryHeld, queryFound, queryTurn}
+use Rattle.machine.specs.Alloc.{allocMarked, allocMade, allocTurn}
+use Rattle.machine.specs.Release.{lessUsed, settle, releaseUnits, releaseTurn}
+use Rattle.machine.specs.Shrink.{shrinkFound, shrinkTurn}
 use Rattle.machine.specs.Reset.{emptyTable, clearBlocks, kept, resetTurn}
 use Rattle.machine.specs.Machine.{Call, create, alloc, release, shrink, query, softReset, hardReset, step}
 use Rattle.shape_facts.proofs.Facts.{count-64}
@@ -40,8 +40,8 @@ use Rattle.shape_kept.specs.Closed.{Good}
 use Rattle.shape_kept.proofs.Cases.{Holds, poolFor, unitsFor, searchFor, newSize, search-count, settle-cases, release-cases, shrink-cases, reset-cases, alloc-cases}
 use Rattle.shape_kept.proofs.Kept.{kept-other}
 use Rattle.shape_kept.proofs.Closed.{closed-other}
-use Rattle.filling.specs.Unused.{made, freed, behind, cutOff, keptBytes, blocksUpTo, unused, filled, imageAfter, lent, lentStep}
-use Rattle.filling.specs.Within.{AllWithin, Outside}
+use Rattle.filling.specs.Unused.{made, freed, behind, cutOff, keptBytes, blocksUpTo, unused, filledImage, imageAfter, lent, lentStep}
+use Rattle.filling.specs.InArena.{AllInArena, Outside}
 use Rattle.filling.proofs.Unused.{within-append, made-none, blocks-none, filled-none, filled-append, filled-stays}
 use Rattle.filling.proofs.Inside.{span-inside, tail-inside, blocks-inside, made-inside}
 
@@ -89,24 +89,24 @@ module _ (s : State) (u t : List ℕ) (bytes : ℕ) where
   unfolding shrinkTurn
   shrink-lent a size e = go (eqb size 0)
     where
-      go : (b : Bool) → let x = pick b (releaseTurn s u t a) (pick (badShape s (length u) (length t)) (refuse BadShape s u t) (pick (eqb a 0) (refuse InvalidArgument s u t) (cutDownTurn s u t a size (lookup s a)))) in lent s u t bytes x ≡ x
+      go : (b : Bool) → let x = pick b (releaseTurn s u t a) (pick (badShape s (length u) (length t)) (refuse BadShape s u t) (pick (eqb a 0) (refuse InvalidArgument s u t) (shrinkFound s u t a size (lookup s a)))) in lent s u t bytes x ≡ x
       go true = release-lent a e
       go false = lent-granted _ e
 
 -- ---- what it fills
 module _ (s : State) (u t : List ℕ) where
   abbrev In : List Span → Type 0
-  In xs = AllWithin (s .arena) (s .length) xs
+  In xs = AllInArena (s .arena) (s .length) xs
 
   alloc-inside : Sized s → (size : ℕ) → In (made (s .count) (allocTurn s u t size .state))
   alloc-inside z size = alloc-cases P s u t (λ why g. none s (le-refl (s .count)))
       size (λ bytes k g. none (searchFor s u bytes .state) (few bytes))
-      (λ bytes j i k e g. none (markTurn (searchFor s u bytes .state) u t j i (unitsFor s bytes) .state) (few bytes))
+      (λ bytes j i k e g. none (allocMarked (searchFor s u bytes .state) u t j i (unitsFor s bytes) .state) (few bytes))
       (λ bytes at slot k p g.
       let r = searchFor s u bytes .state in
-      let x = makeTurn r u t (poolFor s bytes) (unitsFor s bytes) (newSize r (poolFor s bytes) bytes) at slot in
+      let x = allocMade r u t (poolFor s bytes) (unitsFor s bytes) (newSize r (poolFor s bytes) bytes) at slot in
       let o = search-other s u (poolFor s bytes) (unitsFor s bytes) in
-      subst₂ (λ (base n : ℕ). AllWithin base n (made (s .count) (x .state))) (ap (λ (y : State). y .arena) o) (ap (λ (y : State). y .length) o)
+      subst₂ (λ (base n : ℕ). AllInArena base n (made (s .count) (x .state))) (ap (λ (y : State). y .arena) o) (ap (λ (y : State). y .length) o)
       (made-inside (x .state) (length (x .used)) (length (x .stop)) (shaped-is (x .state) (length (x .used)) (length (x .stop)) (g (k .good))) (s .count)))
       (λ good. closed-other s u t (alloc size) z good (λ f. f))
     where
@@ -123,7 +123,7 @@ module _ (s : State) (u t : List ℕ) where
   settled : (answer : Answer) (r : State) (v w : List ℕ) (j : ℕ) → settle answer r v w j .answer ≡ answer
   settled answer r v w j = settle-cases (λ (x : Turn). x .answer ≡ answer) r v w answer j (λ e. refl) (λ e d. refl) (λ e d f. refl)
 
-  free-answer : (a j i e : ℕ) → freeTurn s u t a j i e .answer ≡ Released (span a (bytesOf (e - i) (unitOf s (blockAt s j))))
+  free-answer : (a j i e : ℕ) → releaseUnits s u t a j i e .answer ≡ Released (span a (bytesOf (e - i) (unitOf s (blockAt s j))))
   free-answer a j i e =
       let b = markReleased (s .w) (blockAt s j) i e u t in
       settled (Released (span a (bytesOf (e - i) (unitOf s (blockAt s j))))) (withLive (lessUsed s j (b .block) (e - i)) (s .live - 1)) (b .used) (b .stop) j
@@ -137,9 +137,9 @@ module _ (s : State) (u t : List ℕ) where
   shows : (a j i e : ℕ) → Holds s u t a j i e → queryTurn s u t a .answer ≡ Shown (span a (bytesOf (e - i) (unitOf s (blockAt s j))))
   unfolding queryTurn
   shows a j i e h =
-      ap (λ (b : Bool). pick (not b) (refuse BadShape s u t) (queriedTurn s u t a (lookup s a)) .answer) (h .good)
-      ∙ ap (λ (f : Found). queriedTurn s u t a f .answer) (sym (h .found))
-      ∙ ap (λ (x : Held). shownTurn s u t a j x .answer) (h .held)
+      ap (λ (b : Bool). pick (not b) (refuse BadShape s u t) (queryFound s u t a (lookup s a)) .answer) (h .good)
+      ∙ ap (λ (f : Found). queryFound s u t a f .answer) (sym (h .found))
+      ∙ ap (λ (x : Held). queryHeld s u t a j x .answer) (h .held)
 
   cut-inside : (a j i e n : ℕ) → Holds s u t a j i e → n ≤ e - i → In (behind (span a (bytesOf n (unitOf s (blockAt s j)))) (queryTurn s u t a .answer))
   cut-inside a j i e n h l =
@@ -177,7 +177,7 @@ module _ (s : State) (u t : List ℕ) where
 
       all : (r : State) → r .arena ≡ s .arena → r .length ≡ s .length → goodShape r (length (cleared u)) (length (cleared t)) ≡ true → In (blocksUpTo r (r .count))
       all r a n g =
-          subst₂ (λ (base k : ℕ). AllWithin base k (blocksUpTo r (r .count))) a n
+          subst₂ (λ (base k : ℕ). AllInArena base k (blocksUpTo r (r .count))) a n
           (blocks-inside r (length (cleared u)) (length (cleared t)) (shaped-is r (length (cleared u)) (length (cleared t)) g) (r .count) (le-refl (r .count)))
 
   pub unused-inside : Sized s → (c : Call) → In (unused s u t c (step s u t c))
@@ -190,15 +190,15 @@ module _ (s : State) (u t : List ℕ) where
   unused-inside z hardReset = reset-inside z true
 
   -- for the functions: what a fill asks, of a turn that is the call's
-  pub asks : Sized s → (c : Call) (x : Turn) → x ≡ step s u t c → (n : ℕ) → n ≡ s .length → AllWithin (s .arena) n (unused s u t c x)
-  asks z c x e n l = subst₂ (λ (k : ℕ) (y : Turn). AllWithin (s .arena) k (unused s u t c y)) (sym l) (sym e) (unused-inside z c)
+  pub asks : Sized s → (c : Call) (x : Turn) → x ≡ step s u t c → (n : ℕ) → n ≡ s .length → AllInArena (s .arena) n (unused s u t c x)
+  asks z c x e n l = subst₂ (λ (k : ℕ) (y : Turn). AllInArena (s .arena) k (unused s u t c y)) (sym l) (sym e) (unused-inside z c)
 
   -- of the two fills of a shrink
   pub shrink-asks : Sized s → (a size : ℕ) (was : Answer) → was ≡ queryTurn s u t a .answer → (x : Turn) → x ≡ shrinkTurn s u t a size → (n : ℕ) → n ≡ s .length
-      → AllWithin (s .arena) n (freed (x .answer)) × AllWithin (s .arena) n (cutOff was (x .answer))
+      → AllInArena (s .arena) n (freed (x .answer)) × AllInArena (s .arena) n (cutOff was (x .answer))
   shrink-asks z a size was q x e n l =
       within-append (s .arena) n (freed (x .answer)) (cutOff was (x .answer))
-      (subst (λ (w : Answer). AllWithin (s .arena) n (freed (x .answer) ++ cutOff w (x .answer))) (sym q) (asks z (shrink a size) x e n l))
+      (subst (λ (w : Answer). AllInArena (s .arena) n (freed (x .answer) ++ cutOff w (x .answer))) (sym q) (asks z (shrink a size) x e n l))
 
   -- a call that is refused before it is made fills nothing
   pub unused-refused : (c : Call) (why : Refusal) → unused s u t c (refuse why s u t) ≡ []
@@ -234,16 +234,16 @@ module _ (s : State) (u t : List ℕ) (pattern : ℕ) (image : List ℕ) where
 
   -- a call, and the fill of what it leaves unused
   pub lent-fills : (c : Call) (x : Turn) (after : List ℕ) → x ≡ step s u t c → lentStep s u t (length image) c ≡ step s u t c
-      → after ≡ filled (s .arena) pattern image (unused s u t c x) → IsLent c x after
-  lent-fills c x after e l f = (e ∙ sym l, f ∙ ap (λ (y : Turn). filled (s .arena) pattern image (unused s u t c y)) (e ∙ sym l))
+      → after ≡ filledImage (s .arena) pattern image (unused s u t c x) → IsLent c x after
+  lent-fills c x after e l f = (e ∙ sym l, f ∙ ap (λ (y : Turn). filledImage (s .arena) pattern image (unused s u t c y)) (e ∙ sym l))
 
   -- the two fills of a shrink come to what it leaves unused
-  pub both-fills : (a size : ℕ) (was : Answer) → was ≡ queryTurn s u t a .answer → (x : Turn) (one two : List ℕ) → one ≡ filled (s .arena) pattern image (freed (x .answer))
-      → two ≡ filled (s .arena) pattern one (cutOff was (x .answer)) → two ≡ filled (s .arena) pattern image (unused s u t (shrink a size) x)
+  pub both-fills : (a size : ℕ) (was : Answer) → was ≡ queryTurn s u t a .answer → (x : Turn) (one two : List ℕ) → one ≡ filledImage (s .arena) pattern image (freed (x .answer))
+      → two ≡ filledImage (s .arena) pattern one (cutOff was (x .answer)) → two ≡ filledImage (s .arena) pattern image (unused s u t (shrink a size) x)
   both-fills a size was q x one two e f =
-      f ∙ ap (λ (y : List ℕ). filled (s .arena) pattern y (cutOff was (x .answer))) e
+      f ∙ ap (λ (y : List ℕ). filledImage (s .arena) pattern y (cutOff was (x .answer))) e
       ∙ sym (filled-append (s .arena) pattern image (freed (x .answer)) (cutOff was (x .answer)))
-      ∙ ap (λ (w : Answer). filled (s .arena) pattern image (freed (x .answer) ++ cutOff w (x .answer))) q
+      ∙ ap (λ (w : Answer). filledImage (s .arena) pattern image (freed (x .answer) ++ cutOff w (x .answer))) q
 
   pub not-lent : (c : Call) (r : Outcome) → (length image ≡ s .length → ⊥)
       → r ≡ refusal s (pick (badShape s (length u) (length t)) BadShape InvalidArgument) → IsLent c (turn (r .answer) (r .state) u t) image
@@ -251,8 +251,8 @@ module _ (s : State) (u t : List ℕ) (pattern : ℕ) (image : List ℕ) where
       let why = pick (badShape s (length u) (length t)) BadShape InvalidArgument in
       let same : refuse why s u t ≡ lentStep s u t (length image) c = sym (lent-refused s u t (length image) (step s u t c) ne) in (
         ap (λ (o : Outcome). turn (o .answer) (o .state) u t) e ∙ same,
-        sym (filled-none (s .arena) pattern image) ∙ ap (filled (s .arena) pattern image) (sym (unused-refused s u t c why))
-            ∙ ap (λ (y : Turn). filled (s .arena) pattern image (unused s u t c y)) same,
+        sym (filled-none (s .arena) pattern image) ∙ ap (filledImage (s .arena) pattern image) (sym (unused-refused s u t c why))
+            ∙ ap (λ (y : Turn). filledImage (s .arena) pattern image (unused s u t c y)) same,
       )
 
   -- ---- which bytes stay
@@ -261,7 +261,7 @@ module _ (s : State) (u t : List ℕ) (pattern : ℕ) (image : List ℕ) where
 
   -- a refusal fills nothing
   pub refusal-fills-none : (c : Call) (why : Refusal) → lentStep s u t (length image) c .answer ≡ Refused why → after c ≡ image
-  refusal-fills-none c why e = ap (filled (s .arena) pattern image) (none e) ∙ filled-none (s .arena) pattern image
+  refusal-fills-none c why e = ap (filledImage (s .arena) pattern image) (none e) ∙ filled-none (s .arena) pattern image
     where
       none : lentStep s u t (length image) c .answer ≡ Refused why → unused s u t c (lentStep s u t (length image) c) ≡ []
       none =
@@ -273,10 +273,10 @@ module _ (s : State) (u t : List ℕ) (pattern : ℕ) (image : List ℕ) where
       → getD (after c) (k - s .arena) 0 ≡ getD image (k - s .arena) 0
   others-stay z c k low =
       lent-cases s u t (length image)
-      (λ (x : Turn). Outside k (unused s u t c x) → getD (filled (s .arena) pattern image (unused s u t c x)) (k - s .arena) 0 ≡ getD image (k - s .arena) 0) (step s u t c)
+      (λ (x : Turn). Outside k (unused s u t c x) → getD (filledImage (s .arena) pattern image (unused s u t c x)) (k - s .arena) 0 ≡ getD image (k - s .arena) 0) (step s u t c)
       (λ l. filled-stays (s .arena) pattern (s .length) k image (unused s u t c (step s u t c)) (unused-inside s u t z c) low)
       (λ why o.
-      ap (λ (xs : List Span). getD (filled (s .arena) pattern image xs) (k - s .arena) 0) (unused-refused s u t c why)
+      ap (λ (xs : List Span). getD (filledImage (s .arena) pattern image xs) (k - s .arena) 0) (unused-refused s u t c why)
       ∙ ap (λ (y : List ℕ). getD y (k - s .arena) 0) (filled-none (s .arena) pattern image))
 
   -- a hard reset keeps no block
@@ -285,10 +285,10 @@ module _ (s : State) (u t : List ℕ) (pattern : ℕ) (image : List ℕ) where
   hard-none =
       picked (λ (x : Turn). keptBytes (x .state) (x .answer) ≡ []) (badShape s (length u) (length t)) (refuse BadShape s u t) _ (λ e. refl) (λ e. blocks-none (emptyTable s))
 
-  pub hard-fills-none : (x : Turn) → x ≡ resetTurn s u t true → image ≡ filled (s .arena) pattern image (unused s u t hardReset x)
+  pub hard-fills-none : (x : Turn) → x ≡ resetTurn s u t true → image ≡ filledImage (s .arena) pattern image (unused s u t hardReset x)
   hard-fills-none x e =
       sym (filled-none (s .arena) pattern image)
-      ∙ ap (filled (s .arena) pattern image) (sym (ap (λ (y : Turn). keptBytes (y .state) (y .answer)) e ∙ hard-none))
+      ∙ ap (filledImage (s .arena) pattern image) (sym (ap (λ (y : Turn). keptBytes (y .state) (y .answer)) e ∙ hard-none))
 
 -- ---- the table has room for what is made or kept
 module _ (s : State) (u t : List ℕ) where
@@ -298,7 +298,7 @@ module _ (s : State) (u t : List ℕ) where
       (λ bytes j i k e g h. absurd (omega (arith, h, search-count s u bytes)))
       (λ bytes at slot k p g h.
       let r = searchFor s u bytes .state in
-      let x = makeTurn r u t (poolFor s bytes) (unitsFor s bytes) (newSize r (poolFor s bytes) bytes) at slot in
+      let x = allocMade r u t (poolFor s bytes) (unitsFor s bytes) (newSize r (poolFor s bytes) bytes) at slot in
       omega (arith, h, count-64 (x .state) (length (x .used)) (length (x .stop)) (shaped-is (x .state) (length (x .used)) (length (x .stop)) (g (k .good)))))
       (λ good. closed-other s u t (alloc size) z good (λ f. f))
     where

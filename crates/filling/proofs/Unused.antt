@@ -20,29 +20,29 @@ use Rattle.image.proofs.Image.{length-filled, filled-out}
 use Rattle.state.specs.declared.State.{State}
 use Rattle.state.specs.declared.Span.{Span}
 use Rattle.state.specs.Table.{blockAt}
-use Rattle.filling.specs.Unused.{bytesOfBlock, made, freed, behind, cutOff, blocksUpTo, keptBytes, filled}
-use Rattle.filling.specs.Within.{Within, AllWithin, Outside}
+use Rattle.filling.specs.Unused.{bytesOfBlock, made, freed, behind, cutOff, blocksUpTo, keptBytes, filledImage}
+use Rattle.filling.specs.InArena.{InArena, AllInArena, Outside}
 
-pub filled-none : (arena pattern : ℕ) (image : List ℕ) → filled arena pattern image [] ≡ image
-unfolding filled
+pub filled-none : (arena pattern : ℕ) (image : List ℕ) → filledImage arena pattern image [] ≡ image
+unfolding filledImage
 filled-none arena pattern image = refl
 
-pub filled-one : (arena pattern : ℕ) (image : List ℕ) (x : Span) → filled arena pattern image (x ∷ []) ≡ filledAt image (x .address - arena) (x .size) pattern
-unfolding filled
+pub filled-one : (arena pattern : ℕ) (image : List ℕ) (x : Span) → filledImage arena pattern image (x ∷ []) ≡ filledAt image (x .address - arena) (x .size) pattern
+unfolding filledImage
 filled-one arena pattern image x = refl
 
-pub filled-append : (arena pattern : ℕ) (image : List ℕ) (xs ys : List Span) → filled arena pattern image (xs ++ ys) ≡ filled arena pattern (filled arena pattern image xs) ys
-unfolding filled
+pub filled-append : (arena pattern : ℕ) (image : List ℕ) (xs ys : List Span) → filledImage arena pattern image (xs ++ ys) ≡ filledImage arena pattern (filledImage arena pattern image xs) ys
+unfolding filledImage
 filled-append arena pattern image [] ys = refl
 filled-append arena pattern image (x ∷ xs) ys = filled-append arena pattern (filledAt image (x .address - arena) (x .size) pattern) xs ys
 
-pub length-filled-all : (arena pattern : ℕ) (image : List ℕ) (xs : List Span) → length (filled arena pattern image xs) ≡ length image
-unfolding filled
+pub length-filled-all : (arena pattern : ℕ) (image : List ℕ) (xs : List Span) → length (filledImage arena pattern image xs) ≡ length image
+unfolding filledImage
 length-filled-all arena pattern image [] = refl
 length-filled-all arena pattern image (x ∷ xs) =
     length-filled-all arena pattern (filledAt image (x .address - arena) (x .size) pattern) xs ∙ length-filled image (x .address - arena) (x .size) pattern
 
-pub within-append : (arena length : ℕ) (xs ys : List Span) → AllWithin arena length (xs ++ ys) → AllWithin arena length xs × AllWithin arena length ys
+pub within-append : (arena length : ℕ) (xs ys : List Span) → AllInArena arena length (xs ++ ys) → AllInArena arena length xs × AllInArena arena length ys
 within-append arena length [] ys w = (tt, w)
 within-append arena length (x ∷ xs) ys w = ((w .0, within-append arena length xs ys (w .1) .0), within-append arena length xs ys (w .1) .1)
 
@@ -62,24 +62,24 @@ blocks-more : (r : State) (n : ℕ) → blocksUpTo r (n + 1) ≡ blocksUpTo r n 
 unfolding blocksUpTo
 blocks-more r n = ap (blocksUpTo r) (add-one n)
 
-pub blocks-within : (arena : ℕ) (r : State) (length n i : ℕ) → i < n → AllWithin arena length (blocksUpTo r n) → Within arena length (bytesOfBlock (blockAt r i))
+pub blocks-within : (arena : ℕ) (r : State) (length n i : ℕ) → i < n → AllInArena arena length (blocksUpTo r n) → InArena arena length (bytesOfBlock (blockAt r i))
 unfolding blocksUpTo
 blocks-within arena r length zero i h w = absurd (omega (arith, h))
 blocks-within arena r length (suc n) i h w =
     let parts = within-append arena length (blocksUpTo r n) (bytesOfBlock (blockAt r n) ∷ []) w in
-    ⊎-elim (λ e. subst (λ (k : ℕ). Within arena length (bytesOfBlock (blockAt r k))) (sym e) (parts .1 .0))
+    ⊎-elim (λ e. subst (λ (k : ℕ). InArena arena length (bytesOfBlock (blockAt r k))) (sym e) (parts .1 .0))
     (λ l. blocks-within arena r length n i l (parts .0)) (eq-or-lt-of-le (le-of-suc-le-suc h))
 
 pub filled-more : (arena : ℕ) (r : State) (pattern : ℕ) (image : List ℕ) (n : ℕ)
-    → filledAt (filled arena pattern image (blocksUpTo r n)) (blockAt r n .base - arena) (blockAt r n .size) pattern
-    ≡ filled arena pattern image (blocksUpTo r (n + 1))
+    → filledAt (filledImage arena pattern image (blocksUpTo r n)) (blockAt r n .base - arena) (blockAt r n .size) pattern
+    ≡ filledImage arena pattern image (blocksUpTo r (n + 1))
 filled-more arena r pattern image n =
-    sym (filled-one arena pattern (filled arena pattern image (blocksUpTo r n)) (bytesOfBlock (blockAt r n)))
+    sym (filled-one arena pattern (filledImage arena pattern image (blocksUpTo r n)) (bytesOfBlock (blockAt r n)))
     ∙ sym (filled-append arena pattern image (blocksUpTo r n) (bytesOfBlock (blockAt r n) ∷ []))
-    ∙ ap (filled arena pattern image) (sym (blocks-more r n))
+    ∙ ap (filledImage arena pattern image) (sym (blocks-more r n))
 
-pub filled-start : (arena : ℕ) (r : State) (pattern : ℕ) (image : List ℕ) → image ≡ filled arena pattern image (blocksUpTo r 0)
-unfolding blocksUpTo filled
+pub filled-start : (arena : ℕ) (r : State) (pattern : ℕ) (image : List ℕ) → image ≡ filledImage arena pattern image (blocksUpTo r 0)
+unfolding blocksUpTo filledImage
 filled-start arena r pattern image = refl
 
 -- ---- answers that free nothing, by the numbers of the variants that are left
@@ -120,9 +120,9 @@ kept-none r Reset h = absurd (miss (0 ∷ 1 ∷ 2 ∷ 3 ∷ 4 ∷ 6 ∷ []) 5 tt
 kept-none r (Refused why) h = refl
 
 -- ---- the bytes outside all of the spans stay
-pub filled-stays : (arena pattern length k : ℕ) (image : List ℕ) (xs : List Span) → AllWithin arena length xs → arena ≤ k → Outside k xs
-    → getD (filled arena pattern image xs) (k - arena) 0 ≡ getD image (k - arena) 0
-unfolding filled
+pub filled-stays : (arena pattern length k : ℕ) (image : List ℕ) (xs : List Span) → AllInArena arena length xs → arena ≤ k → Outside k xs
+    → getD (filledImage arena pattern image xs) (k - arena) 0 ≡ getD image (k - arena) 0
+unfolding filledImage
 filled-stays arena pattern length k image [] w a o = refl
 filled-stays arena pattern length k image (x ∷ xs) w a o =
     filled-stays arena pattern length k (filledAt image (x .address - arena) (x .size) pattern) xs (w .1) a (o .1)

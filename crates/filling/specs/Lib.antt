@@ -1,4 +1,4 @@
 pub mod Unused
-pub mod Within
+pub mod InArena
 pub mod Refused
 pub mod Copying

@@ -89,10 +89,10 @@ unused s u t (create a) x = []
 unused s u t (query a) x = []
 
 -- ---- the image afterwards; its first byte is the arena's
-unfoldable pub filled : ℕ → ℕ → List ℕ → List Span → List ℕ
-filled arena pattern image [] = image
-filled arena pattern image (x ∷ xs) = filled arena pattern (filledAt image (x .address - arena) (x .size) pattern) xs
+unfoldable pub filledImage : ℕ → ℕ → List ℕ → List Span → List ℕ
+filledImage arena pattern image [] = image
+filledImage arena pattern image (x ∷ xs) = filledImage arena pattern (filledAt image (x .address - arena) (x .size) pattern) xs
 
 -- what the call leaves of it
 abbrev pub imageAfter : State → List ℕ → List ℕ → ℕ → List ℕ → Call → List ℕ
-imageAfter s u t pattern image c = filled (s .arena) pattern image (unused s u t c (lentStep s u t (length image) c))
+imageAfter s u t pattern image c = filledImage (s .arena) pattern image (unused s u t c (lentStep s u t (length image) c))

@@ -6,7 +6,7 @@ use state::State;
 ghost use mathlib.Core.Path.{_≡_};
 ghost use lib.ListN.{length};
 ghost use Rattle.state.specs.declared.Answer.the-variants.{Shown};
-ghost use Rattle.filling.specs.Within.{Within};
+ghost use Rattle.filling.specs.InArena.{InArena};
 ghost use Rattle.filling.specs.Copying.{fits, written, lookedUp, copyAnswer, copyImage};
 
 // What a query shows, where the image is as long as the arena.
@@ -21,7 +21,7 @@ fn look_up(s: State, used: &[u32], stop: &[u32], room: usize, address: u64) -> A
 
 // The bytes into a span, from an offset on, if they end with the span at the latest.
 fn write(image: &mut [u8], arena: u64, x: Span, offset: u64, bytes: &[u8]) -> Answer
-    requires { ⌜ Within arena (length (now image)) x ⌝ }
+    requires { ⌜ InArena arena (length (now image)) x ⌝ }
     ensures { λ r. ⌜ r ≡ fits offset (length (now (bytes .entry))) (Shown x) ⌝ }
     ensures { λ r. ⌜ now (image .exit) ≡ written arena offset (now (bytes .entry)) (now (image .entry)) r ⌝ }
 {

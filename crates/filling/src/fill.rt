@@ -1,4 +1,4 @@
-// The bytes that a call leaves unused, filled by a pattern in an image of the arena.
+// The bytes that a call leaves unused, filledImage by a pattern in an image of the arena.
 use state::Answer;
 use state::Span;
 use state::State;
@@ -7,8 +7,8 @@ ghost use Prim.Native.Nat.{_+_, _-_, _<_, _≤_};
 ghost use lib.ListN.{length};
 ghost use Rattle.image.specs.Image.{filledAt};
 ghost use Rattle.state.specs.declared.Answer.the-variants.{Reset};
-ghost use Rattle.filling.specs.Unused.{made, freed, behind, cutOff, blocksUpTo, keptBytes, filled};
-ghost use Rattle.filling.specs.Within.{AllWithin};
+ghost use Rattle.filling.specs.Unused.{made, freed, behind, cutOff, blocksUpTo, keptBytes, filledImage};
+ghost use Rattle.filling.specs.InArena.{AllInArena};
 
 // The bytes of one span.
 fn fill_span(image: &mut [u8], arena: u64, address: u64, size: u64, pattern: u32)
@@ -20,8 +20,8 @@ fn fill_span(image: &mut [u8], arena: u64, address: u64, size: u64, pattern: u32
 
 // A new block's bytes: that of age `before`, where there are more blocks than that.
 pub fn fill_made(image: &mut [u8], arena: u64, before: usize, r: State, pattern: u32)
-    requires { ⌜ (before < r .count → before < 64) × AllWithin arena (length (now image)) (made before r) ⌝ }
-    ensures { λ _. ⌜ now (image .exit) ≡ filled arena pattern (now (image .entry)) (made before r) ⌝ }
+    requires { ⌜ (before < r .count → before < 64) × AllInArena arena (length (now image)) (made before r) ⌝ }
+    ensures { λ _. ⌜ now (image .exit) ≡ filledImage arena pattern (now (image .entry)) (made before r) ⌝ }
 {
     if before < r.count {
         let b = state::block_at(r, before);
@@ -31,8 +31,8 @@ pub fn fill_made(image: &mut [u8], arena: u64, before: usize, r: State, pattern:
 
 // The bytes of a span that was released.
 pub fn fill_freed(image: &mut [u8], arena: u64, answer: Answer, pattern: u32)
-    requires { ⌜ AllWithin arena (length (now image)) (freed answer) ⌝ }
-    ensures { λ _. ⌜ now (image .exit) ≡ filled arena pattern (now (image .entry)) (freed answer) ⌝ }
+    requires { ⌜ AllInArena arena (length (now image)) (freed answer) ⌝ }
+    ensures { λ _. ⌜ now (image .exit) ≡ filledImage arena pattern (now (image .entry)) (freed answer) ⌝ }
 {
     if let Answer::Released(x) = answer {
         fill_span(image, arena, x.address, x.size, pattern);
@@ -41,8 +41,8 @@ pub fn fill_freed(image: &mut [u8], arena: u64, answer: Answer, pattern: u32)
 
 // The bytes behind those that a span keeps, where a query showed it as `was`.
 fn fill_behind(image: &mut [u8], arena: u64, was: Answer, x: Span, pattern: u32)
-    requires { ⌜ AllWithin arena (length (now image)) (behind x was) ⌝ }
-    ensures { λ _. ⌜ now (image .exit) ≡ filled arena pattern (now (image .entry)) (behind x was) ⌝ }
+    requires { ⌜ AllInArena arena (length (now image)) (behind x was) ⌝ }
+    ensures { λ _. ⌜ now (image .exit) ≡ filledImage arena pattern (now (image .entry)) (behind x was) ⌝ }
 {
     if let Answer::Shown(y) = was {
         if x.size < y.size {
@@ -53,8 +53,8 @@ fn fill_behind(image: &mut [u8], arena: u64, was: Answer, x: Span, pattern: u32)
 
 // The bytes that a shrink cut off.
 pub fn fill_cut_off(image: &mut [u8], arena: u64, was: Answer, answer: Answer, pattern: u32)
-    requires { ⌜ AllWithin arena (length (now image)) (cutOff was answer) ⌝ }
-    ensures { λ _. ⌜ now (image .exit) ≡ filled arena pattern (now (image .entry)) (cutOff was answer) ⌝ }
+    requires { ⌜ AllInArena arena (length (now image)) (cutOff was answer) ⌝ }
+    ensures { λ _. ⌜ now (image .exit) ≡ filledImage arena pattern (now (image .entry)) (cutOff was answer) ⌝ }
 {
     if let Answer::Shrunk(x) = answer {
         fill_behind(image, arena, was, x, pattern);
@@ -63,8 +63,8 @@ pub fn fill_cut_off(image: &mut [u8], arena: u64, was: Answer, answer: Answer, p
 
 // All bytes of all blocks.
 fn fill_blocks(image: &mut [u8], arena: u64, r: State, pattern: u32)
-    requires { ⌜ (r .count ≤ 64) × AllWithin arena (length (now image)) (blocksUpTo r (r .count)) ⌝ }
-    ensures { λ _. ⌜ now (image .exit) ≡ filled arena pattern (now (image .entry)) (blocksUpTo r (r .count)) ⌝ }
+    requires { ⌜ (r .count ≤ 64) × AllInArena arena (length (now image)) (blocksUpTo r (r .count)) ⌝ }
+    ensures { λ _. ⌜ now (image .exit) ≡ filledImage arena pattern (now (image .entry)) (blocksUpTo r (r .count)) ⌝ }
 {
     let mut i: usize = 0;
     while i < r.count {
@@ -76,8 +76,8 @@ fn fill_blocks(image: &mut [u8], arena: u64, r: State, pattern: u32)
 
 // All bytes of the blocks that a reset kept.
 pub fn fill_kept(image: &mut [u8], arena: u64, r: State, answer: Answer, pattern: u32)
-    requires { ⌜ (answer ≡ Reset → r .count ≤ 64) × AllWithin arena (length (now image)) (keptBytes r answer) ⌝ }
-    ensures { λ _. ⌜ now (image .exit) ≡ filled arena pattern (now (image .entry)) (keptBytes r answer) ⌝ }
+    requires { ⌜ (answer ≡ Reset → r .count ≤ 64) × AllInArena arena (length (now image)) (keptBytes r answer) ⌝ }
+    ensures { λ _. ⌜ now (image .exit) ≡ filledImage arena pattern (now (image .entry)) (keptBytes r answer) ⌝ }
 {
     if let Answer::Reset = answer {
         fill_blocks(image, arena, r, pattern);

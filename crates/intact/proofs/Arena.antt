@@ -8,7 +8,7 @@ use Rattle.state.specs.declared.State.{State}
 use Rattle.state.specs.declared.Span.{Span}
 use Rattle.state.specs.Table.{blockAt}
 use Rattle.machine.specs.Turn.{Turn, withLive}
-use Rattle.machine.specs.Release.{lessUsed, freeTurn, releaseTurn}
+use Rattle.machine.specs.Release.{lessUsed, releaseUnits, releaseTurn}
 use Rattle.machine.specs.Machine.{Call, create, alloc, release, shrink, query, softReset, hardReset, step}
 use Rattle.shape_kept.proofs.Cases.{search-arena, settle-cases, create-cases, query-cases, release-cases, shrink-cases, reset-cases, alloc-cases}
 use Rattle.ledger.specs.Ledger.{enter, In}
@@ -17,7 +17,7 @@ module _ (s : State) (u t : List ℕ) (l : List Span) where
   abbrev Same : Turn → Type 0
   Same x = (a z : ℕ) → In a z (enter (x .answer) l) → x .state .arena ≡ s .arena
 
-  freed : (a j i e : ℕ) → Same (freeTurn s u t a j i e)
+  freed : (a j i e : ℕ) → Same (releaseUnits s u t a j i e)
   freed a j i e =
       let m = markReleased (s .w) (blockAt s j) i e u t in
       settle-cases Same (withLive (lessUsed s j (m .block) (e - i)) (s .live - 1)) (m .used) (m .stop) _ j (λ n b z y. refl) (λ n g b z y. refl) (λ n g h b z y. refl)

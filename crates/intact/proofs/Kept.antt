@@ -14,7 +14,7 @@ use Rattle.state.specs.declared.Refusal.{Refusal}
 use Rattle.state.specs.declared.Answer.{Answer}
 use Rattle.state.specs.declared.Answer.the-variants.{Granted, Released, Shrunk, Shown, Refused}
 use Rattle.machine.specs.Turn.{Turn, span}
-use Rattle.machine.specs.Alloc.{markTurn}
+use Rattle.machine.specs.Alloc.{allocMarked}
 use Rattle.machine.specs.Release.{releaseTurn}
 use Rattle.machine.specs.Span.{queryTurn}
 use Rattle.machine.specs.Reset.{resetTurn}
@@ -22,7 +22,7 @@ use Rattle.machine.specs.Machine.{Call, create, alloc, release, shrink, query, 
 use Rattle.shape_kept.proofs.Cases.{Seeks, unitsFor, searchFor, search-count, create-cases, query-cases, reset-cases}
 use Rattle.ledger.specs.Ledger.{enter, strike, In}
 use Rattle.ledger.specs.Reached.{Reached}
-use Rattle.ledger.proofs.Alloc.{refused, hit, full, made as makes, goes, Goes as Ways}
+use Rattle.ledger.proofs.Alloc.{refused, hit, full, made as makes, goes, Ways}
 use Rattle.ledger.proofs.Reached.{Known, reached-known}
 use Rattle.demands.specs.Apart.{Apart}
 use Rattle.demands.specs.Alloc.{Made, Goes}
@@ -32,7 +32,7 @@ use Rattle.demands.proofs.First.{alloc-goes}
 use Rattle.demands.proofs.Answers.{unknown, GivenBack, zero-address, no-block, no-span, struck, given-back, CutDown, too-many, shortened, cut-down}
 use Rattle.demands.proofs.Addresses.{release-strikes, shrink-to-none, query-shows}
 use Rattle.filling.specs.Unused.{made, freed, behind, cutOff, keptBytes, unused}
-use Rattle.filling.specs.Within.{Outside}
+use Rattle.filling.specs.InArena.{Outside}
 use Rattle.filling.proofs.Unused.{made-one, made-none}
 use Rattle.intact.proofs.New.{made-beside}
 
@@ -90,7 +90,7 @@ module _ {s : State} {u t : List ℕ} {l : List Span} (r : Reached s u t l) (a z
       go (full b q e why turned) = subst Alloc (sym turned) (no-block-made (searchFor s u b .state) (search-count s u b))
       go (hit b j i q e turned) =
           subst Alloc (sym turned)
-          (λ m. no-block-made (markTurn (searchFor s u b .state) u t j i (unitsFor s b) .state) (search-count s u b) (entered size _ (ap (λ (x : Turn). x .answer) turned) m))
+          (λ m. no-block-made (allocMarked (searchFor s u b .state) u t j i (unitsFor s b) .state) (search-count s u b) (entered size _ (ap (λ (x : Turn). x .answer) turned) m))
       go (makes b at slot q e p turned) =
           λ m.
           let is = ap (λ (x : Turn). x .answer) turned in
@@ -98,9 +98,9 @@ module _ {s : State} {u t : List ℕ} {l : List Span} (r : Reached s u t l) (a z
           same (made (s .count) (step s u t (alloc size) .state)) (into b q is old (alloc-goes r size b (q .is))) old
         where
           into : (b : ℕ) → Seeks s u t size b → {y : Span} → step s u t (alloc size) .answer ≡ Granted y → In a z l
-              → Goes s u (poolOf b (s .g) (s .pools)) (unitsOf b (s .g)) b (step s u t (alloc size)) → Outside k (made (s .count) (step s u t (alloc size) .state))
+              → Goes s u (poolOf b (s .granularity) (s .poolcount)) (unitsOf b (s .granularity)) b (step s u t (alloc size)) → Outside k (made (s .count) (step s u t (alloc size) .state))
           into b q is old (inl y) = none (step s u t (alloc size) .state) (y .count)
-          into b q is old (inr (f, inl y)) = new (poolOf b (s .g) (s .pools)) (unitsOf b (s .g)) b (step s u t (alloc size)) y old
+          into b q is old (inr (f, inl y)) = new (poolOf b (s .granularity) (s .poolcount)) (unitsOf b (s .granularity)) b (step s u t (alloc size)) y old
           into b q is old (inr (f, inr y)) = absurd (let z : _≡_ {A = ℕ} 0 1 = cc in omega arith)
 
   -- ---- a release
@@ -147,7 +147,7 @@ module _ {s : State} {u t : List ℕ} {l : List Span} (r : Reached s u t l) (a z
       go (shortened y n h e) = subst P (sym e) (cut (query-shows r b y .1 n))
         where
           kept : ℕ
-          kept = bytesOf (unitsOf size (s .g)) (s .g)
+          kept = bytesOf (unitsOf size (s .granularity)) (s .granularity)
 
           cut : shown ≡ Shown (span b y) → P (Shrunk (span b kept))
           cut q =

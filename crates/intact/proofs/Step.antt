@@ -16,7 +16,7 @@ use Rattle.ledger.proofs.Reached.{Known, reached-known}
 use Rattle.demands.proofs.Spans.{spans-lie-apart, span-in-one-block, block-in-arena, one-entry}
 use Rattle.demands.proofs.Addresses.{query-shows}
 use Rattle.filling.specs.Unused.{unused, lentStep, imageAfter}
-use Rattle.filling.specs.Within.{Outside}
+use Rattle.filling.specs.InArena.{Outside}
 use Rattle.filling.proofs.Lent.{lent-cases, unused-refused, others-stay}
 use Rattle.filling.specs.Copying.{copyImage}
 use Rattle.filling.proofs.Written.{copied-out, copied-within}

@@ -6,7 +6,7 @@ use mathlib.Core.Path.{refl}
 use Rattle.bits.specs.Bits.{digit, bit, put, setBit, filled}
 use Rattle.runs.specs.Seek.{freeFrom, lowestFit, longestRun, lastEnd, seek}
 use Rattle.block.specs.Marking.{moved, marked, released}
-use Rattle.block.specs.Search.{looks, lookInto}
+use Rattle.block.specs.Search.{worthSearching, lookInto}
 use Rattle.sizes.specs.Limits.{isGranularity, granularityInForce, isPowerBelow, isBaseSize, baseSizeInForce}
 use Rattle.sizes.specs.Pools.{poolOf}
 use Rattle.sizes.specs.Sizes.{rounded, idealSize}
@@ -28,5 +28,5 @@ created image = record { state = first .state; used = first .used; stop = first 
 
 pub second-span-is-left : (image : List ℕ)
     → Leave 4194432 4194440 (acts (created image) (plain (alloc 100) ∷ plain (alloc 64) ∷ [])) (plain (release 4194304) ∷ plain (alloc 192) ∷ [])
-unfolding Leave acts first asked strike createTurn isGranularity granularityInForce isPowerBelow isBaseSize baseSizeInForce digit bit put setBit filled freeFrom lowestFit longestRun lastEnd seek moved marked released looks lookInto poolOf rounded idealSize all sum clauses leastFrom latest listFrom searchFrom allocTurn releaseTurn
+unfolding Leave acts first asked strike createTurn isGranularity granularityInForce isPowerBelow isBaseSize baseSizeInForce digit bit put setBit filled freeFrom lowestFit longestRun lastEnd seek moved marked released worthSearching lookInto poolOf rounded idealSize all sum clauses leastFrom latest listFrom searchFrom allocTurn releaseTurn
 second-span-is-left image = ((64, inl (refl, refl)), λ x. x, ((64, inl (refl, refl)), λ x. x, (64, inr (inl (refl, refl)))))

@@ -15,8 +15,8 @@ use Rattle.block.specs.Marking.{marked, released, shrunk}
 use Rattle.block.specs.Search.{lookInto}
 use Rattle.state.specs.declared.Span.{Span}
 use Rattle.machine.specs.Turn.{span}
-use Rattle.ledger.specs.Paint.{Piece, piece, strike as strikePiece}
-use Rattle.ledger.proofs.Sound.{mark-sound, release-sound, shrink-sound, tight-sound}
+use Rattle.ledger.specs.Paint.{Piece, piece, strikePiece}
+use Rattle.ledger.proofs.SoundBlock.{mark-sound, release-sound, shrink-sound, tight-sound}
 use Rattle.ledger.proofs.Lies.{numbers-lie, marked-lies, released-lies, missed-lies}
 use Rattle.ledger.specs.Ledger.{In, strike}
 use Rattle.ledger.specs.Agrees.{within, viewOf, at, Agrees}

@@ -20,8 +20,8 @@ use Rattle.machine.specs.Turn.{clearSlot}
 use Rattle.machine.specs.Create.{cleared}
 use Rattle.machine.specs.Reset.{clearBlocks}
 use Rattle.shape_facts.proofs.Clear.{length-clear}
-use Rattle.ledger.specs.Paint.{Sound as SoundBlock}
-use Rattle.ledger.proofs.Sound.{emptied-sound}
+use Rattle.ledger.specs.Paint.{SoundBlock}
+use Rattle.ledger.proofs.SoundBlock.{emptied-sound}
 use Rattle.ledger.specs.Agrees.{view, viewOf, at, Clear, Agrees}
 use Rattle.ledger.proofs.Table.{slot-room, sound-moved}
 

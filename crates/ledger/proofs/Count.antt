@@ -12,7 +12,7 @@ use Rattle.state.specs.declared.Span.{Span}
 use Rattle.state.specs.Table.{sum}
 use Rattle.state.proofs.Tests.{sum-le, sum-same}
 use Rattle.shape.proofs.Bools.{by-bool}
-use Rattle.ledger.specs.Paint.{Piece, piece, units, Inside}
+use Rattle.ledger.specs.Paint.{Piece, piece, units, InsideArea}
 use Rattle.ledger.specs.Agrees.{within, view, viewOf, at, Homes, Agrees}
 use Rattle.ledger.proofs.View.{view-lies}
 
@@ -30,23 +30,23 @@ view-grows : (g : ℕ) (b : Block) (x : Span) (l : List Span) → units (viewOf 
 unfolding view units
 view-grows g b x l = by-bool (within (b .base) (b .size) (x .address)) (λ e. rw e (omega arith)) (λ e. rw e (omega arith))
 
-pub view-inside : (g : ℕ) (b : Block) (x : Span) (l : List Span) → Inside (viewOf g b (x ∷ l)) (b .area) → Inside (viewOf g b l) (b .area)
+pub view-inside : (g : ℕ) (b : Block) (x : Span) (l : List Span) → InsideArea (viewOf g b (x ∷ l)) (b .area) → InsideArea (viewOf g b l) (b .area)
 unfolding view
 view-inside g b x l =
-    picked (λ (m : List Piece). Inside m (b .area) → Inside (viewOf g b l) (b .area)) (within (b .base) (b .size) (x .address)) _ _ (λ e p. p .2) (λ e p. p)
+    picked (λ (m : List Piece). InsideArea m (b .area) → InsideArea (viewOf g b l) (b .area)) (within (b .base) (b .size) (x .address)) _ _ (λ e p. p .2) (λ e p. p)
 
 units-more : (x : Piece) (l : List Piece) → 0 < x .len → units l + 1 ≤ units (x ∷ l)
 unfolding units
 units-more x l h = omega arith
 
 module _ (g n : ℕ) (bs : List Block) (pos : 0 < g) (whole : (j : ℕ) → j < n → at bs j .area * g ≡ at bs j .size) where
-  spans-units : (l : List Span) → Homes g n bs l → ((j : ℕ) → j < n → Inside (viewOf g (at bs j) l) (at bs j .area)) → length l ≤ sum n (λ j. units (viewOf g (at bs j) l))
+  spans-units : (l : List Span) → Homes g n bs l → ((j : ℕ) → j < n → InsideArea (viewOf g (at bs j) l) (at bs j .area)) → length l ≤ sum n (λ j. units (viewOf g (at bs j) l))
   spans-units [] h f = omega arith
   spans-units (x ∷ l) h f =
       let k = h .0 .0 in
       let y = h .0 .2 in
       let v = view-lies g pos (at bs k) (whole k (h .0 .1)) x l y in
-      let i = subst (λ (m : List Piece). Inside m (at bs k .area)) v (f k (h .0 .1)) in
+      let i = subst (λ (m : List Piece). InsideArea m (at bs k .area)) v (f k (h .0 .1)) in
       omega (
         arith,
         spans-units l (h .1) (λ j p. view-inside g (at bs j) x l (f j p)),

@@ -26,9 +26,9 @@ use Rattle.shape.specs.Shaped.{Shaped}
 use Rattle.shape.proofs.Shaped.{shaped-is}
 use Rattle.shape_facts.proofs.Facts.{found-in, unit-g, pool-3}
 use Rattle.machine.specs.Turn.{Turn, turn, refuse, span, unitOf}
-use Rattle.machine.specs.Span.{heldOf, heldIn, shownTurn, queriedTurn, queryTurn}
-use Rattle.machine.specs.Release.{freeTurn, releasedTurn, givenBackTurn, releaseTurn}
-use Rattle.machine.specs.Shrink.{cutTurn, unitsTurn, shrunkTurn, cutDownTurn, shrinkTurn}
+use Rattle.machine.specs.Span.{heldOf, heldIn, queryHeld, queryFound, queryTurn}
+use Rattle.machine.specs.Release.{releaseUnits, releaseHeld, releaseFound, releaseTurn}
+use Rattle.machine.specs.Shrink.{shrinkTail, shrinkUnits, shrinkHeld, shrinkFound, shrinkTurn}
 use Rattle.ledger.specs.Ledger.{In}
 use Rattle.ledger.specs.Agrees.{within, Sound}
 use Rattle.ledger.proofs.View.{within-range}
@@ -50,55 +50,55 @@ pub data Finds (s : State) (u t : List ℕ) (l : List Span) (a : ℕ) : Type 0 w
   nowhere : lookup s a ≡ Nothing → ((z : ℕ) → In a z l → ⊥) → Finds s u t l a
   nothing : (j : ℕ) → j < s .count → lookup s a ≡ At j → heldIn s u t a j ≡ NoSpan → ((z : ℕ) → In a z l → ⊥) → Finds s u t l a
   entry : (j i e : ℕ) → j < s .count → lookup s a ≡ At j → heldIn s u t a j ≡ Units i e → i < e → e ≤ blockAt s j .area
-      → a ≡ blockAt s j .base + i * s .g → In a ((e - i) * s .g) l → e - i ≤ blockAt s j .used → Finds s u t l a
+      → a ≡ blockAt s j .base + i * s .granularity → In a ((e - i) * s .granularity) l → e - i ≤ blockAt s j .used → Finds s u t l a
 
 module _ (s : State) (u t : List ℕ) (l : List Span) (o : Sound s u t l) (len : length (s .blocks) ≡ 64) where
   abbrev pub shaped : Shaped s (length u) (length t)
   shaped = shaped-is s (length u) (length t) (o .shape)
 
-  abbrev pub stands : Stands (s .g) (s .w) (s .slots) (s .count) (s .blocks) (length u) (length t)
+  abbrev pub stands : Stands (s .granularity) (s .w) (s .slots) (s .count) (s .blocks) (length u) (length t)
   stands = stands-of s (length u) (length t) (shaped-is s (length u) (length t) (o .shape)) len
 
-  pub unit-is : (j : ℕ) → j < s .count → unitOf s (blockAt s j) ≡ s .g
+  pub unit-is : (j : ℕ) → j < s .count → unitOf s (blockAt s j) ≡ s .granularity
   unit-is j h = unit-g s (length u) (length t) shaped (blockAt s j .pool) (pool-3 s (length u) (length t) shaped j h)
 
-  told-in : (a j : ℕ) → At j ≡ lookup s a → Told (s .g) (s .w) (s .slots) (s .count) (s .blocks) u t stands l (o .agrees) a j (heldIn s u t a j)
+  told-in : (a j : ℕ) → At j ≡ lookup s a → Told (s .granularity) (s .w) (s .slots) (s .count) (s .blocks) u t stands l (o .agrees) a j (heldIn s u t a j)
   told-in a j e =
       let r = found-in s a j e in
       let q : within (blockAt s j .base) (blockAt s j .size) a ≡ true = r .1 in
-      subst (λ (g : ℕ). Told (s .g) (s .w) (s .slots) (s .count) (s .blocks) u t stands l (o .agrees) a j (heldOf (s .w) (blockAt s j) g u t a)) (sym (unit-is j (r .0)))
-      (held-told (s .g) (s .w) (s .slots) (s .count) (s .blocks) u t stands l (o .agrees) a j (r .0) q (within-range (blockAt s j .base) (blockAt s j .size) a q .0))
+      subst (λ (g : ℕ). Told (s .granularity) (s .w) (s .slots) (s .count) (s .blocks) u t stands l (o .agrees) a j (heldOf (s .w) (blockAt s j) g u t a)) (sym (unit-is j (r .0)))
+      (held-told (s .granularity) (s .w) (s .slots) (s .count) (s .blocks) u t stands l (o .agrees) a j (r .0) q (within-range (blockAt s j .base) (blockAt s j .size) a q .0))
 
   pub finds : (a : ℕ) → Finds s u t l a
   finds a = go (lookup s a) refl
     where
-      held : (j : ℕ) → lookup s a ≡ At j → (x : Held) → heldIn s u t a j ≡ x → Told (s .g) (s .w) (s .slots) (s .count) (s .blocks) u t stands l (o .agrees) a j x → Finds s u t l a
+      held : (j : ℕ) → lookup s a ≡ At j → (x : Held) → heldIn s u t a j ≡ x → Told (s .granularity) (s .w) (s .slots) (s .count) (s .blocks) u t stands l (o .agrees) a j x → Finds s u t l a
       held j e NoSpan z q = nothing j (found-in s a j (sym e) .0) e z q
       held j e NoStop z q = absurd q
       held j e (Units i k) z q = entry j i k (found-in s a j (sym e) .0) e z (q .0) (q .1) (q .2) (q .3) (q .4)
 
       go : (x : Found) → lookup s a ≡ x → Finds s u t l a
       go Nothing e = nowhere e (λ z mem.
-          let y = seen (s .g) (s .w) (s .slots) (s .count) (s .blocks) u t stands l (o .agrees) a z mem in
+          let y = seen (s .granularity) (s .w) (s .slots) (s .count) (s .blocks) u t stands l (o .agrees) a z mem in
           let none = subst (Least 0 (s .count) (λ i. holds (blockAt s i) a)) e (least-of (s .count) (λ i. holds (blockAt s i) a)) in
-          not-both (holds (blockAt s (y .block)) a) (seen-in (s .g) (s .w) (s .slots) (s .count) (s .blocks) u t stands l (o .agrees) a z y) (none (y .block) (omega arith) (y .known)))
+          not-both (holds (blockAt s (y .block)) a) (seen-in (s .granularity) (s .w) (s .slots) (s .count) (s .blocks) u t stands l (o .agrees) a z y) (none (y .block) (omega arith) (y .known)))
       go (At j) e = held j e (heldIn s u t a j) refl (told-in a j (sym e))
 
   -- no span is at address 0
   pub not-zero : (a z : ℕ) → In a z l → a ≡ 0 → ⊥
   not-zero a z mem e =
-      let y = seen (s .g) (s .w) (s .slots) (s .count) (s .blocks) u t stands l (o .agrees) a z mem in
+      let y = seen (s .granularity) (s .w) (s .slots) (s .count) (s .blocks) u t stands l (o .agrees) a z mem in
       omega (arith, y .address, shaped .sound (y .block) (y .known) .above, shaped .head .arena-low)
 
   -- ---- query
-  pub query-at : (a : ℕ) (x : Found) → lookup s a ≡ x → queryTurn s u t a ≡ queriedTurn s u t a x
+  pub query-at : (a : ℕ) (x : Found) → lookup s a ≡ x → queryTurn s u t a ≡ queryFound s u t a x
   unfolding queryTurn
-  query-at a x e = not-bad (goodShape s (length u) (length t)) (o .shape) _ _ ∙ ap (queriedTurn s u t a) e
+  query-at a x e = not-bad (goodShape s (length u) (length t)) (o .shape) _ _ ∙ ap (queryFound s u t a) e
 
-  pub query-held : (a j : ℕ) (x : Held) → lookup s a ≡ At j → heldIn s u t a j ≡ x → queryTurn s u t a ≡ shownTurn s u t a j x
-  query-held a j x e z = query-at a (At j) e ∙ ap (shownTurn s u t a j) z
+  pub query-held : (a j : ℕ) (x : Held) → lookup s a ≡ At j → heldIn s u t a j ≡ x → queryTurn s u t a ≡ queryHeld s u t a j x
+  query-held a j x e z = query-at a (At j) e ∙ ap (queryHeld s u t a j) z
 
-  pub query-entry : (a j i e : ℕ) → j < s .count → lookup s a ≡ At j → heldIn s u t a j ≡ Units i e → queryTurn s u t a ≡ turn (Shown (span a ((e - i) * s .g))) s u t
+  pub query-entry : (a j i e : ℕ) → j < s .count → lookup s a ≡ At j → heldIn s u t a j ≡ Units i e → queryTurn s u t a ≡ turn (Shown (span a ((e - i) * s .granularity))) s u t
   query-entry a j i e h p q = query-held a j (Units i e) p q ∙ ap (λ (g : ℕ). turn (Shown (span a ((e - i) * g))) s u t) (unit-is j h)
 
   -- ---- release
@@ -106,21 +106,21 @@ module _ (s : State) (u t : List ℕ) (l : List Span) (o : Sound s u t l) (len :
   unfolding releaseTurn
   release-zero a e = not-bad (goodShape s (length u) (length t)) (o .shape) _ _ ∙ rw (eq-eqb a 0 e)
 
-  pub release-at : (a : ℕ) (x : Found) → (a ≡ 0 → ⊥) → lookup s a ≡ x → releaseTurn s u t a ≡ givenBackTurn s u t a x
+  pub release-at : (a : ℕ) (x : Found) → (a ≡ 0 → ⊥) → lookup s a ≡ x → releaseTurn s u t a ≡ releaseFound s u t a x
   unfolding releaseTurn
   release-at a x ne e =
-      not-bad (goodShape s (length u) (length t)) (o .shape) _ _ ∙ ap (λ (c : Bool). pick c (refuse InvalidArgument s u t) (givenBackTurn s u t a (lookup s a))) (ne-eqb a 0 ne) ∙ ap (givenBackTurn s u t a) e
+      not-bad (goodShape s (length u) (length t)) (o .shape) _ _ ∙ ap (λ (c : Bool). pick c (refuse InvalidArgument s u t) (releaseFound s u t a (lookup s a))) (ne-eqb a 0 ne) ∙ ap (releaseFound s u t a) e
 
-  pub release-held : (a j : ℕ) (x : Held) → (a ≡ 0 → ⊥) → lookup s a ≡ At j → heldIn s u t a j ≡ x → releaseTurn s u t a ≡ releasedTurn s u t a j x
-  release-held a j x ne e z = release-at a (At j) ne e ∙ ap (releasedTurn s u t a j) z
+  pub release-held : (a j : ℕ) (x : Held) → (a ≡ 0 → ⊥) → lookup s a ≡ At j → heldIn s u t a j ≡ x → releaseTurn s u t a ≡ releaseHeld s u t a j x
+  release-held a j x ne e z = release-at a (At j) ne e ∙ ap (releaseHeld s u t a j) z
 
-  pub release-entry : (a j i e : ℕ) → (a ≡ 0 → ⊥) → lookup s a ≡ At j → heldIn s u t a j ≡ Units i e → In a ((e - i) * s .g) l → e - i ≤ blockAt s j .used
-      → releaseTurn s u t a ≡ freeTurn s u t a j i e
+  pub release-entry : (a j i e : ℕ) → (a ≡ 0 → ⊥) → lookup s a ≡ At j → heldIn s u t a j ≡ Units i e → In a ((e - i) * s .granularity) l → e - i ≤ blockAt s j .used
+      → releaseTurn s u t a ≡ releaseUnits s u t a j i e
   release-entry a j i e ne p q mem used =
-      let live : eqb (s .live) 0 ≡ false = ne-eqb (s .live) 0 (λ z. omega (arith, o .live, some-entry l a ((e - i) * s .g) mem)) in
+      let live : eqb (s .live) 0 ≡ false = ne-eqb (s .live) 0 (λ z. omega (arith, o .live, some-entry l a ((e - i) * s .granularity) mem)) in
       release-held a j (Units i e) ne p q
-      ∙ ap (λ (c : Bool). pick (c || eqb (s .live) 0) (refuse Damaged s u t) (freeTurn s u t a j i e)) (le-ltb (blockAt s j .used) (e - i) used)
-      ∙ ap (λ (c : Bool). pick c (refuse Damaged s u t) (freeTurn s u t a j i e)) live
+      ∙ ap (λ (c : Bool). pick (c || eqb (s .live) 0) (refuse Damaged s u t) (releaseUnits s u t a j i e)) (le-ltb (blockAt s j .used) (e - i) used)
+      ∙ ap (λ (c : Bool). pick c (refuse Damaged s u t) (releaseUnits s u t a j i e)) live
 
   -- ---- shrink
   pub shrink-release : (a size : ℕ) → size ≡ 0 → shrinkTurn s u t a size ≡ releaseTurn s u t a
@@ -130,37 +130,37 @@ module _ (s : State) (u t : List ℕ) (l : List Span) (o : Sound s u t l) (len :
   pub shrink-zero : (a size : ℕ) → (size ≡ 0 → ⊥) → a ≡ 0 → shrinkTurn s u t a size ≡ refuse InvalidArgument s u t
   unfolding shrinkTurn
   shrink-zero a size ns e =
-      ap (λ (c : Bool). pick c (releaseTurn s u t a) (pick (badShape s (length u) (length t)) (refuse BadShape s u t) (pick (eqb a 0) (refuse InvalidArgument s u t) (cutDownTurn s u t a size (lookup s a))))) (ne-eqb size 0 ns)
+      ap (λ (c : Bool). pick c (releaseTurn s u t a) (pick (badShape s (length u) (length t)) (refuse BadShape s u t) (pick (eqb a 0) (refuse InvalidArgument s u t) (shrinkFound s u t a size (lookup s a))))) (ne-eqb size 0 ns)
       ∙ not-bad (goodShape s (length u) (length t)) (o .shape) _ _ ∙ rw (eq-eqb a 0 e)
 
-  pub shrink-at : (a size : ℕ) (x : Found) → (size ≡ 0 → ⊥) → (a ≡ 0 → ⊥) → lookup s a ≡ x → shrinkTurn s u t a size ≡ cutDownTurn s u t a size x
+  pub shrink-at : (a size : ℕ) (x : Found) → (size ≡ 0 → ⊥) → (a ≡ 0 → ⊥) → lookup s a ≡ x → shrinkTurn s u t a size ≡ shrinkFound s u t a size x
   unfolding shrinkTurn
   shrink-at a size x ns ne e =
-      ap (λ (c : Bool). pick c (releaseTurn s u t a) (pick (badShape s (length u) (length t)) (refuse BadShape s u t) (pick (eqb a 0) (refuse InvalidArgument s u t) (cutDownTurn s u t a size (lookup s a))))) (ne-eqb size 0 ns)
+      ap (λ (c : Bool). pick c (releaseTurn s u t a) (pick (badShape s (length u) (length t)) (refuse BadShape s u t) (pick (eqb a 0) (refuse InvalidArgument s u t) (shrinkFound s u t a size (lookup s a))))) (ne-eqb size 0 ns)
       ∙ not-bad (goodShape s (length u) (length t)) (o .shape) _ _
-      ∙ ap (λ (c : Bool). pick c (refuse InvalidArgument s u t) (cutDownTurn s u t a size (lookup s a))) (ne-eqb a 0 ne) ∙ ap (cutDownTurn s u t a size) e
+      ∙ ap (λ (c : Bool). pick c (refuse InvalidArgument s u t) (shrinkFound s u t a size (lookup s a))) (ne-eqb a 0 ne) ∙ ap (shrinkFound s u t a size) e
 
-  pub shrink-held : (a size j : ℕ) (x : Held) → (size ≡ 0 → ⊥) → (a ≡ 0 → ⊥) → lookup s a ≡ At j → heldIn s u t a j ≡ x → shrinkTurn s u t a size ≡ shrunkTurn s u t a size j x
-  shrink-held a size j x ns ne e z = shrink-at a size (At j) ns ne e ∙ ap (shrunkTurn s u t a size j) z
+  pub shrink-held : (a size j : ℕ) (x : Held) → (size ≡ 0 → ⊥) → (a ≡ 0 → ⊥) → lookup s a ≡ At j → heldIn s u t a j ≡ x → shrinkTurn s u t a size ≡ shrinkHeld s u t a size j x
+  shrink-held a size j x ns ne e z = shrink-at a size (At j) ns ne e ∙ ap (shrinkHeld s u t a size j) z
 
   -- the units that a size takes, of a span that stands there
   pub shrink-units : (a size j i e : ℕ) → (size ≡ 0 → ⊥) → (a ≡ 0 → ⊥) → j < s .count → lookup s a ≡ At j → heldIn s u t a j ≡ Units i e → e - i ≤ blockAt s j .used
-      → shrinkTurn s u t a size ≡ unitsTurn s u t a j i e (unitsOf size (s .g))
+      → shrinkTurn s u t a size ≡ shrinkUnits s u t a j i e (unitsOf size (s .granularity))
   shrink-units a size j i e ns ne h p q used =
       shrink-held a size j (Units i e) ns ne p q
-      ∙ ap (λ (c : Bool). pick c (refuse Damaged s u t) (unitsTurn s u t a j i e (unitsOf size (unitOf s (blockAt s j))))) (le-ltb (blockAt s j .used) (e - i) used)
-      ∙ ap (λ (g : ℕ). unitsTurn s u t a j i e (unitsOf size g)) (unit-is j h)
+      ∙ ap (λ (c : Bool). pick c (refuse Damaged s u t) (shrinkUnits s u t a j i e (unitsOf size (unitOf s (blockAt s j))))) (le-ltb (blockAt s j .used) (e - i) used)
+      ∙ ap (λ (g : ℕ). shrinkUnits s u t a j i e (unitsOf size g)) (unit-is j h)
 
-  pub units-more : (a j i e n : ℕ) → e - i < n → unitsTurn s u t a j i e n ≡ refuse InvalidState s u t
+  pub units-more : (a j i e n : ℕ) → e - i < n → shrinkUnits s u t a j i e n ≡ refuse InvalidState s u t
   units-more a j i e n h = rw (lt-ltb (e - i) n h)
 
-  pub units-same : (a j i e n : ℕ) → j < s .count → n ≡ e - i → unitsTurn s u t a j i e n ≡ turn (Shrunk (span a (n * s .g))) s u t
+  pub units-same : (a j i e n : ℕ) → j < s .count → n ≡ e - i → shrinkUnits s u t a j i e n ≡ turn (Shrunk (span a (n * s .granularity))) s u t
   units-same a j i e n h q =
-      ap (λ (c : Bool). pick c (refuse InvalidState s u t) (pick (eqb n (e - i)) (turn (Shrunk (span a (bytesOf n (unitOf s (blockAt s j))))) s u t) (cutTurn s u t a j i e n))) (le-ltb (e - i) n (omega arith))
-      ∙ ap (λ (c : Bool). pick c (turn (Shrunk (span a (bytesOf n (unitOf s (blockAt s j))))) s u t) (cutTurn s u t a j i e n)) (eq-eqb n (e - i) q)
+      ap (λ (c : Bool). pick c (refuse InvalidState s u t) (pick (eqb n (e - i)) (turn (Shrunk (span a (bytesOf n (unitOf s (blockAt s j))))) s u t) (shrinkTail s u t a j i e n))) (le-ltb (e - i) n (omega arith))
+      ∙ ap (λ (c : Bool). pick c (turn (Shrunk (span a (bytesOf n (unitOf s (blockAt s j))))) s u t) (shrinkTail s u t a j i e n)) (eq-eqb n (e - i) q)
       ∙ ap (λ (g : ℕ). turn (Shrunk (span a (n * g))) s u t) (unit-is j h)
 
-  pub units-less : (a j i e n : ℕ) → n < e - i → unitsTurn s u t a j i e n ≡ cutTurn s u t a j i e n
+  pub units-less : (a j i e n : ℕ) → n < e - i → shrinkUnits s u t a j i e n ≡ shrinkTail s u t a j i e n
   units-less a j i e n q =
-      ap (λ (c : Bool). pick c (refuse InvalidState s u t) (pick (eqb n (e - i)) (turn (Shrunk (span a (bytesOf n (unitOf s (blockAt s j))))) s u t) (cutTurn s u t a j i e n))) (le-ltb (e - i) n (omega arith))
-      ∙ ap (λ (c : Bool). pick c (turn (Shrunk (span a (bytesOf n (unitOf s (blockAt s j))))) s u t) (cutTurn s u t a j i e n)) (ne-eqb n (e - i) (λ z. omega arith))
+      ap (λ (c : Bool). pick c (refuse InvalidState s u t) (pick (eqb n (e - i)) (turn (Shrunk (span a (bytesOf n (unitOf s (blockAt s j))))) s u t) (shrinkTail s u t a j i e n))) (le-ltb (e - i) n (omega arith))
+      ∙ ap (λ (c : Bool). pick c (turn (Shrunk (span a (bytesOf n (unitOf s (blockAt s j))))) s u t) (shrinkTail s u t a j i e n)) (ne-eqb n (e - i) (λ z. omega arith))

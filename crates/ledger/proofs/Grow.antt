@@ -9,7 +9,7 @@ use Rattle.slots.specs.Slots.{slotOf}
 use Rattle.block.specs.declared.Block.{Block}
 use Rattle.state.specs.declared.Span.{Span}
 use Rattle.state.specs.Change.{past, fallen}
-use Rattle.ledger.specs.Paint.{Piece, piece, Sound as SoundBlock}
+use Rattle.ledger.specs.Paint.{Piece, piece, SoundBlock}
 use Rattle.shape_kept.proofs.Sums.{past-ne, past-low, past-fallen, fallen-low}
 use Rattle.ledger.specs.Agrees.{view, viewOf, Lies, at, Homes, Clear, Agrees}
 use Rattle.ledger.proofs.View.{lies-in, view-other, view-lies}

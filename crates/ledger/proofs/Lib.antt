@@ -3,7 +3,7 @@ pub mod Paints
 pub mod Marking
 pub mod Pieced
 pub mod Lies
-pub mod Sound
+pub mod SoundBlock
 pub mod Slots
 pub mod Stands
 pub mod Back

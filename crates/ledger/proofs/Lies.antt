@@ -14,7 +14,7 @@ use Rattle.block.specs.declared.Looked.{Looked}
 use Rattle.block.specs.declared.Looked.the-variants.{Found, Missed}
 use Rattle.block.specs.Record.{withNumbers}
 use Rattle.block.specs.Marking.{marked, released}
-use Rattle.block.specs.Search.{looks, looked, lookInto}
+use Rattle.block.specs.Search.{worthSearching, looked, lookInto}
 
 -- c is a later record of the block b
 pub record Lies (c b : Block) : Type 0 where
@@ -51,7 +51,7 @@ looked-lies b Full = record { base = refl; size = refl; pool = refl; slot = refl
 
 pub missed-lies : (w : ℕ) (b : Block) (ws : List ℕ) (n : ℕ) (c : Block) → lookInto w b ws n ≡ Missed c → Lies c b
 unfolding lookInto
-missed-lies w b ws n c e = subst (LiesIn b) e (go (looks b n))
+missed-lies w b ws n c e = subst (LiesIn b) e (go (worthSearching b n))
   where
     go : (x : Bool) → LiesIn b (pick x (looked b (seek (slotOf w (b .slot) ws) (b .start) (b .end) n)) (Missed b))
     go true = looked-lies b (seek (slotOf w (b .slot) ws) (b .start) (b .end) n)

@@ -16,7 +16,7 @@ use Rattle.state.specs.declared.Span.{Span}
 use Rattle.state.specs.declared.Held.{Held}
 use Rattle.state.specs.declared.Held.the-variants.{NoSpan, NoStop, Units}
 use Rattle.machine.specs.Span.{heldAt, heldOf}
-use Rattle.ledger.specs.Paint.{In as InPieces}
+use Rattle.ledger.specs.Paint.{InPieces}
 use Rattle.ledger.proofs.Pieces.{in-units}
 use Rattle.ledger.proofs.Stands.{Stands as StandsAt, stands}
 use Rattle.ledger.specs.Ledger.{In}

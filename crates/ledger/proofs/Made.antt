@@ -24,13 +24,13 @@ use Rattle.shape.proofs.Shaped.{shaped-is}
 use Rattle.shape_facts.proofs.Facts.{unit-g}
 use Rattle.shape_facts.proofs.Room.{slot-is}
 use Rattle.machine.specs.Turn.{Turn, span, unitOf, clearSlot}
-use Rattle.machine.specs.Alloc.{makeTurn}
+use Rattle.machine.specs.Alloc.{allocMade}
 use Rattle.shape_facts.specs.Ready.{Makeable}
 use Rattle.shape_facts.proofs.Made.{length-cleared}
 use Rattle.shape_facts.proofs.Pool.{new-ready}
 use Rattle.shape_facts.proofs.New.{makeable}
-use Rattle.ledger.specs.Paint.{Piece, piece, Sound as SoundBlock}
-use Rattle.ledger.proofs.Sound.{fresh-sound}
+use Rattle.ledger.specs.Paint.{Piece, piece, SoundBlock}
+use Rattle.ledger.proofs.SoundBlock.{fresh-sound}
 use Rattle.ledger.proofs.Lies.{Lies, marked-lies}
 use Rattle.shape_kept.specs.Sized.{Sized}
 use Rattle.shape_kept.proofs.Cases.{Places, newSize}
@@ -66,9 +66,9 @@ module _ (w slots k : ℕ) (ws : List ℕ) (i n v : ℕ) (h : k < slots) (room :
       ∙ clear-other w k ws own-room q ne (slot-room w slots q (length ws) p room)
 
 module _ (r : State) (u t : List ℕ) (l : List Span) (f : Shaped r (length u) (length t)) (z : Sized r)
-    (st : Stands (r .g) (r .w) (r .slots) (r .count) (r .blocks) (length u) (length t)) (ag : Agrees (r .g) (r .w) (r .slots) (r .count) (r .blocks) u t l)
+    (st : Stands (r .granularity) (r .w) (r .slots) (r .count) (r .blocks) (length u) (length t)) (ag : Agrees (r .granularity) (r .w) (r .slots) (r .count) (r .blocks) u t l)
     (live : r .live ≡ length l)
-    (p n bytes place slot : ℕ) (p-low : p < r .pools) (some : 0 < n) (asked : 0 < bytes) (most : bytes ≤ 2147483647) (fits : n * poolAt r p .granularity ≤ bytes)
+    (p n bytes place slot : ℕ) (p-low : p < r .poolcount) (some : 0 < n) (asked : 0 < bytes) (most : bytes ≤ 2147483647) (fits : n * poolAt r p .granularity ≤ bytes)
     (k : Places r p bytes place slot) where
   abbrev size : ℕ
   size = newSize r p bytes
@@ -83,7 +83,7 @@ module _ (r : State) (u t : List ℕ) (l : List Span) (f : Shaped r (length u) (
   with = inserted r new
 
   abbrev pub turned : Turn
-  turned = makeTurn r u t p n size place slot
+  turned = allocMade r u t p n size place slot
 
   p-3 : p < 3
   p-3 = omega (arith, p-low, f .head .pools-high)
@@ -136,17 +136,17 @@ module _ (r : State) (u t : List ℕ) (l : List Span) (f : Shaped r (length u) (
       minus : (n : ℕ) → 0 + n - 1 ≡ n - 1
       minus n = omega arith
 
-  pub unit-last : unitOf with (blockAt with (r .count)) ≡ r .g
+  pub unit-last : unitOf with (blockAt with (r .count)) ≡ r .granularity
   unit-last =
       ap (λ (b : Block). unitOf with b) last ∙ ap (λ (q : Pool). q .granularity) (inserted-pool r z new p-3) ∙ unit-g r (length u) (length t) f p p-3
 
-  pub ledger-is : enter (turned .answer) l ≡ span (block .base + 0 * r .g) (n * r .g) ∷ l
+  pub ledger-is : enter (turned .answer) l ≡ span (block .base + 0 * r .granularity) (n * r .granularity) ∷ l
   ledger-is =
       ap₂ (λ (b g : ℕ). span (b + 0 * g) (n * g) ∷ l) (ap (λ (b : Block). b .base) last ∙ sym (same .base)) unit-last
 
-  pub made-answer : turned .answer ≡ Granted (span place (n * r .g))
+  pub made-answer : turned .answer ≡ Granted (span place (n * r .granularity))
   made-answer =
-      ap₂ (λ (b g : ℕ). Granted (span (b + 0 * g) (n * g))) (ap (λ (b : Block). b .base) last) unit-last ∙ ap (λ (a : ℕ). Granted (span a (n * r .g))) (at-unit-0 place (r .g))
+      ap₂ (λ (b g : ℕ). Granted (span (b + 0 * g) (n * g))) (ap (λ (b : Block). b .base) last) unit-last ∙ ap (λ (a : ℕ). Granted (span a (n * r .granularity))) (at-unit-0 place (r .granularity))
     where
       at-unit-0 : (a g : ℕ) → a + 0 * g ≡ a
       at-unit-0 a g = omega arith
@@ -167,19 +167,19 @@ module _ (r : State) (u t : List ℕ) (l : List Span) (f : Shaped r (length u) (
   made-slot-apart i h e =
       fm .slots-apart i (r .count) h (omega arith) (ap (λ (b : Block). b .slot) (made-old i h) ∙ e ∙ sym (ap (λ (b : Block). b .slot) made-new))
 
-  whole-new : block .area * r .g ≡ block .size
-  whole-new = subst (λ (b : Block). b .area * r .g ≡ b .size) made-new (fm .sound (r .count) (omega arith) .area-size)
+  whole-new : block .area * r .granularity ≡ block .size
+  whole-new = subst (λ (b : Block). b .area * r .granularity ≡ b .size) made-new (fm .sound (r .count) (omega arith) .area-size)
 
   some-area : 0 < block .area
   some-area = omega (arith, same .area, ready .fits)
 
   abbrev entered : List Span
-  entered = span (block .base + 0 * r .g) (n * r .g) ∷ l
+  entered = span (block .base + 0 * r .granularity) (n * r .granularity) ∷ l
 
-  seen : viewOf (r .g) block entered ≡ piece 0 n ∷ []
+  seen : viewOf (r .granularity) block entered ≡ piece 0 n ∷ []
   seen =
-      view-new (r .g) (st .unit) block whole-new 0 n l some-area
-      ∙ ap (λ (m : List Piece). piece 0 n ∷ m) (view-none (r .g) (r .count) (r .blocks) (st .unit) (st .whole) block l above (ag .homes))
+      view-new (r .granularity) (st .unit) block whole-new 0 n l some-area
+      ∙ ap (λ (m : List Piece). piece 0 n ∷ m) (view-none (r .granularity) (r .count) (r .blocks) (st .unit) (st .whole) block l above (ag .homes))
 
   abbrev v : List ℕ
   v = fillSlot (r .w) slot (clearSlot (r .w) slot u) 0 n 1
@@ -187,24 +187,24 @@ module _ (r : State) (u t : List ℕ) (l : List Span) (f : Shaped r (length u) (
   abbrev y : List ℕ
   y = fillSlot (r .w) slot (clearSlot (r .w) slot t) (n - 1) 1 1
 
-  sound : SoundBlock block (slotOf (r .w) (block .slot) v) (slotOf (r .w) (block .slot) y) (viewOf (r .g) block entered)
+  sound : SoundBlock block (slotOf (r .w) (block .slot) v) (slotOf (r .w) (block .slot) y) (viewOf (r .granularity) block entered)
   sound =
       sound-moved block
       (sym (ap (λ (q : ℕ). slotOf (r .w) q v) (same .slot) ∙ filled-own (r .w) (r .slots) slot u 0 n 1 slot-low (st .used-room)))
       (sym (ap (λ (q : ℕ). slotOf (r .w) q y) (same .slot) ∙ filled-own (r .w) (r .slots) slot t (n - 1) 1 1 slot-low (st .stop-room)))
       (sym seen) (fresh-sound place size p slot area n (r .w) some (ready .fits) (ready .placed .area))
 
-  made-agrees : Agrees (r .g) (r .w) (r .slots) (r .count + 1) (turned .state .blocks) v y entered
+  made-agrees : Agrees (r .granularity) (r .w) (r .slots) (r .count + 1) (turned .state .blocks) v y entered
   made-agrees =
-      add-agrees (r .g) (r .w) (r .slots) (r .count) (r .blocks) u t st l ag (turned .state .blocks) v y block entered made-old made-new made-slot-apart
+      add-agrees (r .granularity) (r .w) (r .slots) (r .count) (r .blocks) u t st l ag (turned .state .blocks) v y block entered made-old made-new made-slot-apart
       (subst (λ (q : ℕ). Elsewhere (r .w) (r .slots) q u v) (sym (same .slot)) (filled-other (r .w) (r .slots) slot u 0 n 1 slot-low (st .used-room)))
       (subst (λ (q : ℕ). Elsewhere (r .w) (r .slots) q t y) (sym (same .slot)) (filled-other (r .w) (r .slots) slot t (n - 1) 1 1 slot-low (st .stop-room)))
       sound
       (λ i h.
-      view-other (r .g) (blockAt r i .base) (blockAt r i .size) (span (block .base + 0 * r .g) (n * r .g)) l
-      (beside-out block (blockAt r i) (block .base + 0 * r .g) (beside-swap (blockAt r i) block (above i h)) (in-unit (r .g) (st .unit) block whole-new 0 some-area))) (
-        (r .count, omega arith, (0, n, omega (arith, ap (λ (b : Block). b .area) made-new, some-area), ap (λ (b : Block). b .base + 0 * r .g) (sym made-new), refl)),
-        homes-set (r .g) (r .count) (r .count + 1) (r .blocks) (turned .state .blocks) l
+      view-other (r .granularity) (blockAt r i .base) (blockAt r i .size) (span (block .base + 0 * r .granularity) (n * r .granularity)) l
+      (beside-out block (blockAt r i) (block .base + 0 * r .granularity) (beside-swap (blockAt r i) block (above i h)) (in-unit (r .granularity) (st .unit) block whole-new 0 some-area))) (
+        (r .count, omega arith, (0, n, omega (arith, ap (λ (b : Block). b .area) made-new, some-area), ap (λ (b : Block). b .base + 0 * r .granularity) (sym made-new), refl)),
+        homes-set (r .granularity) (r .count) (r .count + 1) (r .blocks) (turned .state .blocks) l
             (λ i h. (omega arith, sym (ap (λ (b : Block). b .base) (made-old i h)), sym (ap (λ (b : Block). b .area) (made-old i h)))) (ag .homes),
       )
 
@@ -217,8 +217,8 @@ module _ (r : State) (u t : List ℕ) (l : List Span) (f : Shaped r (length u) (
 
   pub make-right : Right l turned
   make-right = record {
-    agrees = subst₂ (λ (x x′ : List ℕ). Agrees (r .g) (r .w) (r .slots) (r .count + 1) (turned .state .blocks) x x′ (enter (turned .answer) l)) (sym used-is) (sym stop-is)
-        (subst (λ (m : List Span). Agrees (r .g) (r .w) (r .slots) (r .count + 1) (turned .state .blocks) v y m) (sym ledger-is) made-agrees);
+    agrees = subst₂ (λ (x x′ : List ℕ). Agrees (r .granularity) (r .w) (r .slots) (r .count + 1) (turned .state .blocks) x x′ (enter (turned .answer) l)) (sym used-is) (sym stop-is)
+        (subst (λ (m : List Span). Agrees (r .granularity) (r .w) (r .slots) (r .count + 1) (turned .state .blocks) v y m) (sym ledger-is) made-agrees);
     live = omega (arith, live, ap length ledger-is);
     enough = fm .live;
   }

@@ -10,19 +10,19 @@ use Rattle.numbers.proofs.Split.{by-eq, by-le}
 use Rattle.bits.specs.Bits.{bit, filled, Filled, Words}
 use Rattle.bits.proofs.Words.{bit-lt, words-ext}
 use Rattle.bits.proofs.Filled.{filled-has, length-filled, bit-zeros, words-zeros}
-use Rattle.ledger.specs.Paint.{Piece, piece, held, ended, Paints, In, strike}
+use Rattle.ledger.specs.Paint.{Piece, piece, holders, enders, Paints, InPieces, strikePiece}
 use Rattle.ledger.proofs.Pieces.{by-range, has-in, has-out, ends-at, ends-not, in-inside}
 use Rattle.ledger.proofs.Paints.{held-one, stop-used, struck-out, struck-alone}
 
 -- a block with no piece: both maps are zero
 pub no-pieces : (area w : ℕ) → Paints [] area (replicate w 0) (replicate w 0)
-unfolding held ended
+unfolding holders enders
 no-pieces area w = record { inside = tt; used = bit-zeros w; stop = bit-zeros w }
 
 -- and only zero words are painted by no piece
 pub no-pieces-zero : (area : ℕ) (u t : List ℕ) → Paints [] area u t → Words u → Words t
     → (u ≡ replicate (length u) 0) × (t ≡ replicate (length t) 0)
-unfolding held ended
+unfolding holders enders
 no-pieces-zero area u t p hu ht = (zeros u hu (p .used), zeros t ht (p .stop))
   where
     zeros : (ws : List ℕ) → Words ws → ((k : ℕ) → bit ws k ≡ 0) → ws ≡ replicate (length ws) 0
@@ -45,7 +45,7 @@ module _ (l : List Piece) (area : ℕ) (u t : List ℕ) (p : Paints l area u t) 
   -- ---- n units from i on, of which z is the last; v and r are the maps afterwards
   mark-filled : (i n z : ℕ) (v r : List ℕ) → 0 < n → i + n ≤ area → z + 1 ≡ i + n → Filled u i n 1 v → Filled t z 1 1 r
       → ((k : ℕ) → i ≤ k → k < i + n → bit u k ≡ 0) → Paints (piece i n ∷ l) area v r
-  unfolding held ended
+  unfolding holders enders
   mark-filled i n z v r pos h last fu ft free = record {
     inside = (pos, h, p .inside);
     used = λ k.
@@ -58,13 +58,13 @@ module _ (l : List Piece) (area : ℕ) (u t : List ℕ) (p : Paints l area u t) 
   }
 
   -- the stop bit of a piece off: the stop bits are those of the others
-  stop-off : (i n z : ℕ) (r : List ℕ) → In i n l → z + 1 ≡ i + n → Filled t z 1 0 r → (k : ℕ) → bit r k ≡ ended (strike i l) k
+  stop-off : (i n z : ℕ) (r : List ℕ) → InPieces i n l → z + 1 ≡ i + n → Filled t z 1 0 r → (k : ℕ) → bit r k ≡ enders (strikePiece i l) k
   stop-off i n z r m last ft k =
       let s = struck-out l area u t p i n m in
       by-eq k z (λ e. here ft k e ∙ omega (arith, ends-at (piece i n) k (omega arith), s .endeds k, p .stop k, bit-lt t k))
       (λ ne. there ft k ne ∙ omega (arith, ends-not (piece i n) k (λ e. ne (omega arith)), s .endeds k, p .stop k))
 
-  release-filled : (i n z : ℕ) (v r : List ℕ) → In i n l → z + 1 ≡ i + n → Filled u i n 0 v → Filled t z 1 0 r → Paints (strike i l) area v r
+  release-filled : (i n z : ℕ) (v r : List ℕ) → InPieces i n l → z + 1 ≡ i + n → Filled u i n 0 v → Filled t z 1 0 r → Paints (strikePiece i l) area v r
   release-filled i n z v r m last fu ft =
       let s = struck-out l area u t p i n m in
       record {
@@ -76,9 +76,9 @@ module _ (l : List Piece) (area : ℕ) (u t : List ℕ) (p : Paints l area u t) 
       }
 
   -- of the n units the first m stay, of which y is the last
-  shrink-filled : (i n m z y : ℕ) (v r r′ : List ℕ) → In i n l → 0 < m → m ≤ n → z + 1 ≡ i + n → y + 1 ≡ i + m
-      → Filled u (i + m) (n - m) 0 v → Filled t z 1 0 r → Filled r y 1 1 r′ → Paints (piece i m ∷ strike i l) area v r′
-  unfolding held ended
+  shrink-filled : (i n m z y : ℕ) (v r r′ : List ℕ) → InPieces i n l → 0 < m → m ≤ n → z + 1 ≡ i + n → y + 1 ≡ i + m
+      → Filled u (i + m) (n - m) 0 v → Filled t z 1 0 r → Filled r y 1 1 r′ → Paints (piece i m ∷ strikePiece i l) area v r′
+  unfolding holders enders
   shrink-filled i n m z y v r r′ mem pos le last left fu ft fr =
       let f = in-inside l area i n (p .inside) mem in
       let s = struck-out l area u t p i n mem in
@@ -114,14 +114,14 @@ module _ (l : List Piece) (area : ℕ) (u t : List ℕ) (p : Paints l area u t) 
         mark-filled i (e - i) (e - 1) (filled u i (e - i) 1) (filled t (e - 1) 1 1) (omega arith) (omega arith) (omega arith)
         (filled-has u i (e - i) 1 (lit< tt) (omega arith)) (filled-has t (e - 1) 1 1 (lit< tt) (omega arith)) (λ k a b. free k a (omega arith))
 
-    pub release-paints : (i e : ℕ) → i < e → In i (e - i) l → Paints (strike i l) area (filled u i (e - i) 0) (filled t (e - 1) 1 0)
+    pub release-paints : (i e : ℕ) → i < e → InPieces i (e - i) l → Paints (strikePiece i l) area (filled u i (e - i) 0) (filled t (e - 1) 1 0)
     release-paints i e some m =
         let f = in-inside l area i (e - i) (p .inside) m in
         release-filled i (e - i) (e - 1) (filled u i (e - i) 0) (filled t (e - 1) 1 0) m (omega arith)
         (filled-has u i (e - i) 0 (lit< tt) (omega arith)) (filled-has t (e - 1) 1 0 (lit< tt) (omega arith))
 
-    pub shrink-paints : (i m e : ℕ) → i < m → m < e → In i (e - i) l
-        → Paints (piece i (m - i) ∷ strike i l) area (filled u m (e - m) 0) (filled (filled t (e - 1) 1 0) (m - 1) 1 1)
+    pub shrink-paints : (i m e : ℕ) → i < m → m < e → InPieces i (e - i) l
+        → Paints (piece i (m - i) ∷ strikePiece i l) area (filled u m (e - m) 0) (filled (filled t (e - 1) 1 0) (m - 1) 1 1)
     shrink-paints i m e some less mem =
         let f = in-inside l area i (e - i) (p .inside) mem in
         let x : i + (m - i) ≡ m = omega arith in

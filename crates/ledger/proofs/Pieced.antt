@@ -8,7 +8,7 @@ use native.Mathlib.Omega.{arith}
 use lib.ListN.{length}
 use Rattle.numbers.proofs.Split.{by-eq, by-le}
 use Rattle.bits.specs.Bits.{bit, ones}
-use Rattle.ledger.specs.Paint.{Piece, has, ends, held, ended, units, Inside, Paints}
+use Rattle.ledger.specs.Paint.{Piece, has, ends, holders, enders, units, InsideArea, Paints}
 use Rattle.ledger.proofs.Pieces.{by-range, has-in, has-out, ends-at, ends-not}
 
 -- the sum of f below m
@@ -47,21 +47,21 @@ total-ends x (suc m) h =
     by-le (x .start + x .len) m (λ p. omega (arith, total-ends x m h, ends-not x m ne))
     (λ p. omega (arith, total-ends x m h, ends-not x m ne, ne)))
 
-total-held : (l : List Piece) (area : ℕ) → Inside l area → total (held l) area ≡ units l
-unfolding held units
-total-held [] area h = total-zero (held []) area (λ k. refl)
+total-held : (l : List Piece) (area : ℕ) → InsideArea l area → total (holders l) area ≡ units l
+unfolding holders units
+total-held [] area h = total-zero (holders []) area (λ k. refl)
 total-held (x ∷ l) area h =
-    total-add (held (x ∷ l)) (has x) (held l) area (λ k. refl) ∙ omega (arith, total-has x area, total-held l area (h .2))
+    total-add (holders (x ∷ l)) (has x) (holders l) area (λ k. refl) ∙ omega (arith, total-has x area, total-held l area (h .2))
 
-total-ended : (l : List Piece) (area : ℕ) → Inside l area → total (ended l) area ≡ length l
-unfolding ended
-total-ended [] area h = total-zero (ended []) area (λ k. refl)
+total-ended : (l : List Piece) (area : ℕ) → InsideArea l area → total (enders l) area ≡ length l
+unfolding enders
+total-ended [] area h = total-zero (enders []) area (λ k. refl)
 total-ended (x ∷ l) area h =
-    total-add (ended (x ∷ l)) (ends x) (ended l) area (λ k. refl) ∙ omega (arith, total-ends x area (h .0), total-ended l area (h .2))
+    total-add (enders (x ∷ l)) (ends x) (enders l) area (λ k. refl) ∙ omega (arith, total-ends x area (h .0), total-ended l area (h .2))
 
 module _ (l : List Piece) (area : ℕ) (u t : List ℕ) (p : Paints l area u t) where
   pub used-units : ones u 0 area ≡ units l
-  used-units = total-ones u (held l) area (p .used) ∙ total-held l area (p .inside)
+  used-units = total-ones u (holders l) area (p .used) ∙ total-held l area (p .inside)
 
   pub stops-pieces : ones t 0 area ≡ length l
-  stops-pieces = total-ones t (ended l) area (p .stop) ∙ total-ended l area (p .inside)
+  stops-pieces = total-ones t (enders l) area (p .stop) ∙ total-ended l area (p .inside)

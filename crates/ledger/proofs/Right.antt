@@ -21,9 +21,9 @@ use Rattle.state.specs.declared.Answer.the-variants.{Released, Shrunk}
 use Rattle.state.specs.Table.{blockAt, poolAt, sum}
 use Rattle.state.specs.Change.{past, removed}
 use Rattle.machine.specs.Turn.{Turn, turn, span, putPool, withLive, withCounts, unitOf, clearSlot}
-use Rattle.machine.specs.Release.{lessUsed, freeTurn}
-use Rattle.machine.specs.Shrink.{cutTurn}
-use Rattle.ledger.specs.Paint.{Piece, piece, held, ended, units, In as InPieces, strike as strikePiece, Sound as SoundBlock}
+use Rattle.machine.specs.Release.{lessUsed, releaseUnits}
+use Rattle.machine.specs.Shrink.{shrinkTail}
+use Rattle.ledger.specs.Paint.{Piece, piece, holders, enders, units, InPieces, strikePiece, SoundBlock}
 use Rattle.ledger.proofs.Pieces.{no-units}
 use Rattle.ledger.proofs.Paints.{struck-out}
 use Rattle.ledger.proofs.Lies.{numbers-lie, released-lies}
@@ -45,15 +45,15 @@ use Rattle.ledger.proofs.Finds.{shaped, stands, unit-is}
 -- The table and the maps agree with the ledger that the answer leaves, the live count is its length, and no more than the units in use. So the state
 -- keeps its shape
 pub record Right (l : List Span) (x : Turn) : Type 0 where
-  pub agrees : Agrees (x .state .g) (x .state .w) (x .state .slots) (x .state .count) (x .state .blocks) (x .used) (x .stop) (enter (x .answer) l)
+  pub agrees : Agrees (x .state .granularity) (x .state .w) (x .state .slots) (x .state .count) (x .state .blocks) (x .used) (x .stop) (enter (x .answer) l)
   pub live : x .state .live ≡ length (enter (x .answer) l)
   pub enough : x .state .live ≤ sum (x .state .count) (λ i. blockAt (x .state) i .used)
 
 abbrev pub Whole : ℕ → ℕ → List Block → Type 0
 Whole g n bs = (j : ℕ) → j < n → at bs j .area * g ≡ at bs j .size
 
-pub right-of : (l : List Span) (x : Turn) → 0 < x .state .g → Whole (x .state .g) (x .state .count) (x .state .blocks)
-    → Agrees (x .state .g) (x .state .w) (x .state .slots) (x .state .count) (x .state .blocks) (x .used) (x .stop) (enter (x .answer) l)
+pub right-of : (l : List Span) (x : Turn) → 0 < x .state .granularity → Whole (x .state .granularity) (x .state .count) (x .state .blocks)
+    → Agrees (x .state .granularity) (x .state .w) (x .state .slots) (x .state .count) (x .state .blocks) (x .used) (x .stop) (enter (x .answer) l)
     → x .state .live ≡ length (enter (x .answer) l) → Right l x
 right-of l x pos whole s live = record {
   agrees = s;
@@ -61,7 +61,7 @@ right-of l x pos whole s live = record {
   enough = omega (
     arith,
     live,
-    live-units (x .state .g) (x .state .count) (x .state .blocks) pos whole (x .state .w) (x .state .slots) (x .used) (x .stop) (enter (x .answer) l) s,
+    live-units (x .state .granularity) (x .state .count) (x .state .blocks) pos whole (x .state .w) (x .state .slots) (x .used) (x .stop) (enter (x .answer) l) s,
   );
 }
 
@@ -76,7 +76,7 @@ stands-long {g} {w} {slots} {n} {bs} p q st = subst₂ (λ (x y : ℕ). Stands g
 
 -- ---- a piece struck and entered again paints the same
 again-sound : (b : Block) (u t : List ℕ) (l : List Piece) (i n : ℕ) → SoundBlock b u t l → InPieces i n l → 0 < n → i + n ≤ b .area → SoundBlock b u t (piece i n ∷ strikePiece i l)
-unfolding held ended units
+unfolding holders enders units
 again-sound b u t l i n s m pos fits =
     let r = struck-out l (b .area) u t (s .paints) i n m in
     record {
@@ -91,21 +91,21 @@ again-sound b u t l i n s m pos fits =
     }
 
 module _ (s : State) (u t : List ℕ) (l : List Span) (o : Sound s u t l) (z : Sized s) where
-  abbrev st : Stands (s .g) (s .w) (s .slots) (s .count) (s .blocks) (length u) (length t)
+  abbrev st : Stands (s .granularity) (s .w) (s .slots) (s .count) (s .blocks) (length u) (length t)
   st = stands s u t l o (z .blocks)
 
   -- ---- nothing changes
   pub same-right : (answer : Answer) → enter answer l ≡ l → Right l (turn answer s u t)
   same-right answer e =
       right-of l (turn answer s u t) (st .unit) (st .whole)
-      (subst (λ (m : List Span). Agrees (s .g) (s .w) (s .slots) (s .count) (s .blocks) u t m) (sym e) (o .agrees)) (o .live ∙ ap length (sym e))
+      (subst (λ (m : List Span). Agrees (s .granularity) (s .w) (s .slots) (s .count) (s .blocks) u t m) (sym e) (o .agrees)) (o .live ∙ ap length (sym e))
 
-  module _ (a j i e : ℕ) (h : j < s .count) (some : i < e) (fits : e ≤ blockAt s j .area) (ea : a ≡ blockAt s j .base + i * s .g) (mem : In a ((e - i) * s .g) l) where
+  module _ (a j i e : ℕ) (h : j < s .count) (some : i < e) (fits : e ≤ blockAt s j .area) (ea : a ≡ blockAt s j .base + i * s .granularity) (mem : In a ((e - i) * s .granularity) l) where
     abbrev b : Block
     b = blockAt s j
 
-    own : In (b .base + i * s .g) ((e - i) * s .g) l
-    own = subst (λ (x : ℕ). In x ((e - i) * s .g) l) ea mem
+    own : In (b .base + i * s .granularity) ((e - i) * s .granularity) l
+    own = subst (λ (x : ℕ). In x ((e - i) * s .granularity) l) ea mem
 
     low : i < b .area
     low = omega arith
@@ -114,9 +114,9 @@ module _ (s : State) (u t : List ℕ) (l : List Span) (o : Sound s u t l) (z : S
     end-low = shaped s u t l o (z .blocks) .sound j h .end
 
     -- ---- a shrink to the same units
-    pub again-right : Right l (turn (Shrunk (span a ((e - i) * s .g))) s u t)
+    pub again-right : Right l (turn (Shrunk (span a ((e - i) * s .granularity))) s u t)
     again-right =
-        let g = s .g in
+        let g = s .granularity in
         let c = b .base + i * g in
         let m = span a ((e - i) * g) ∷ strike a l in
         let p = in-view g (st .unit) b (st .whole j h) l i (e - i) low own in
@@ -143,14 +143,14 @@ module _ (s : State) (u t : List ℕ) (l : List Span) (o : Sound s u t l) (z : S
         (omega (arith, o .live, length-strike l a ((e - i) * g) mem))
 
     -- ---- a shrink to fewer
-    pub cut-right : (n : ℕ) → 0 < n → n < e - i → Right l (cutTurn s u t a j i e n)
+    pub cut-right : (n : ℕ) → 0 < n → n < e - i → Right l (shrinkTail s u t a j i e n)
     cut-right n pos less =
-        let g = s .g in
+        let g = s .granularity in
         let c = shrunk b (i + n) e in
         let unit = unit-is s u t l o (z .blocks) j h in
         let z = shrink-agrees g (s .w) (s .slots) (s .count) (s .blocks) u t st l (o .agrees) j h end-low i n e pos (omega arith) low own in
         let w = set-stands g (s .w) (s .slots) (s .count) (s .blocks) (length u) (length t) st j h c (numbers-lie b _ _ _ _ _) in
-        right-of l (cutTurn s u t a j i e n) (st .unit) (w .whole)
+        right-of l (shrinkTail s u t a j i e n) (st .unit) (w .whole)
         (subst₂ (λ (x k : ℕ). Agrees g (s .w) (s .slots) (s .count) (set (s .blocks) j c) (fillSlot (s .w) (b .slot) u (i + n) (e - (i + n)) 0)
         (fillSlot (s .w) (b .slot) (fillSlot (s .w) (b .slot) t (e - 1) 1 0) (i + n - 1) 1 1) (span x (n * k) ∷ strike x l)) (sym ea) (sym unit) z)
         (omega (arith, o .live, length-strike l a ((e - i) * g) mem))
@@ -168,23 +168,23 @@ module _ (s : State) (u t : List ℕ) (l : List Span) (o : Sound s u t l) (z : S
     after-sized : Sized after
     after-sized = sized-live (lessUsed s j (released b i e) (e - i)) (sized-less s z j (released b i e) (e - i)) (s .live - 1)
 
-    freed-agrees : Agrees (s .g) (s .w) (s .slots) (s .count) (after .blocks) v y (strike a l)
+    freed-agrees : Agrees (s .granularity) (s .w) (s .slots) (s .count) (after .blocks) v y (strike a l)
     freed-agrees =
-        subst (λ (x : ℕ). Agrees (s .g) (s .w) (s .slots) (s .count) (after .blocks) v y (strike x l)) (sym ea)
-        (release-agrees (s .g) (s .w) (s .slots) (s .count) (s .blocks) u t st l (o .agrees) j h end-low i e some low own)
+        subst (λ (x : ℕ). Agrees (s .granularity) (s .w) (s .slots) (s .count) (after .blocks) v y (strike x l)) (sym ea)
+        (release-agrees (s .granularity) (s .w) (s .slots) (s .count) (s .blocks) u t st l (o .agrees) j h end-low i e some low own)
 
-    freed-stands : Stands (s .g) (s .w) (s .slots) (s .count) (after .blocks) (length v) (length y)
+    freed-stands : Stands (s .granularity) (s .w) (s .slots) (s .count) (after .blocks) (length v) (length y)
     freed-stands =
         stands-long (sym (length-fill-slot (s .w) (b .slot) u i (e - i) 0 (slot-room (s .w) (s .slots) (b .slot) (length u) (st .slot j h) (st .used-room))))
         (sym (length-fill-slot (s .w) (b .slot) t (e - 1) 1 0 (slot-room (s .w) (s .slots) (b .slot) (length t) (st .slot j h) (st .stop-room))))
-        (set-stands (s .g) (s .w) (s .slots) (s .count) (s .blocks) (length u) (length t) st j h (released b i e) (released-lies b i e))
+        (set-stands (s .granularity) (s .w) (s .slots) (s .count) (s .blocks) (length u) (length t) st j h (released b i e) (released-lies b i e))
 
     freed-live : s .live - 1 ≡ length (strike a l)
-    freed-live = omega (arith, o .live, length-strike l a ((e - i) * s .g) mem)
+    freed-live = omega (arith, o .live, length-strike l a ((e - i) * s .granularity) mem)
 
     -- its block goes, being empty
     gone : blockAt after j .used ≡ 0
-        → Agrees (s .g) (s .w) (s .slots) (s .count - 1) (removed after j .blocks) (clearSlot (s .w) (blockAt after j .slot) v) (clearSlot (s .w) (blockAt after j .slot) y) (strike a l)
+        → Agrees (s .granularity) (s .w) (s .slots) (s .count - 1) (removed after j .blocks) (clearSlot (s .w) (blockAt after j .slot) v) (clearSlot (s .w) (blockAt after j .slot) y) (strike a l)
     gone none =
         let k = blockAt after j .slot in
         let w = s .w in
@@ -192,17 +192,17 @@ module _ (s : State) (u t : List ℕ) (l : List Span) (o : Sound s u t l) (z : S
         let ru = slot-room w (s .slots) k (length v) (q .slot j h) (q .used-room) in
         let rt = slot-room w (s .slots) k (length y) (q .slot j h) (q .stop-room) in
         let c = freed-agrees .each j h in
-        drop-agrees (s .g) w (s .slots) (s .count) (after .blocks) v y q (strike a l) freed-agrees (removed after j .blocks) (clearSlot w k v) (clearSlot w k y) j h
+        drop-agrees (s .granularity) w (s .slots) (s .count) (after .blocks) v y q (strike a l) freed-agrees (removed after j .blocks) (clearSlot w k v) (clearSlot w k y) j h
         stays
         (λ r p ne. clear-other w k v ru r ne (slot-room w (s .slots) r (length v) p (q .used-room)))
         (λ r p ne. clear-other w k y rt r ne (slot-room w (s .slots) r (length y) p (q .stop-room)))
         (zeros-clear w k (clearSlot w k v) (clear-own w k v ru)) (zeros-clear w k (clearSlot w k y) (clear-own w k y rt))
-        (no-units (viewOf (s .g) (blockAt after j) (strike a l)) (blockAt after j .area) (c .paints .inside) (sym (c .count) ∙ none))
+        (no-units (viewOf (s .granularity) (blockAt after j) (strike a l)) (blockAt after j .area) (c .paints .inside) (sym (c .count) ∙ none))
       where
         stays : (k : ℕ) → k < s .count - 1 → at (removed after j .blocks) k ≡ blockAt after (past j k)
         stays k q = removed-block after after-sized j k (omega (arith, shaped s u t l o (z .blocks) .head .count-slots, shaped s u t l o (z .blocks) .head .slots-high))
 
-    pub free-right : Right l (freeTurn s u t a j i e)
+    pub free-right : Right l (releaseUnits s u t a j i e)
     free-right =
         let answer = Released (span a (bytesOf (e - i) (unitOf s b))) in
         picked (Right l) (not (eqb (blockAt after j .used) 0)) (turn answer after v y) _
@@ -213,8 +213,8 @@ module _ (s : State) (u t : List ℕ) (l : List Span) (o : Sound s u t l) (z : S
         (λ r. right-of l (turn answer (removed after j) (clearSlot (s .w) (blockAt after j .slot) v) (clearSlot (s .w) (blockAt after j .slot) y)) (st .unit) whole-gone (gone none) freed-live)
         (λ r. right-of l (turn answer (putPool after (blockAt after j .pool) (withCounts (poolAt after (blockAt after j .pool)) 1 (poolAt after (blockAt after j .pool) .used))) v y) (st .unit) (freed-stands .whole) freed-agrees freed-live))
       where
-        whole-gone : Whole (s .g) (s .count - 1) (removed after j .blocks)
+        whole-gone : Whole (s .granularity) (s .count - 1) (removed after j .blocks)
         whole-gone k q =
             let few = shaped s u t l o (z .blocks) .head in
-            subst (λ (c : Block). c .area * s .g ≡ c .size) (sym (removed-block after after-sized j k (omega (arith, few .count-slots, few .slots-high))))
+            subst (λ (c : Block). c .area * s .granularity ≡ c .size) (sym (removed-block after after-sized j k (omega (arith, few .count-slots, few .slots-high))))
             (freed-stands .whole (past j k) (past-low j k (s .count) q))

@@ -27,7 +27,7 @@ use Rattle.state.specs.Shape.{inPool}
 use Rattle.state.specs.Change.{withTable}
 use Rattle.machine.specs.Turn.{putBlock}
 use Rattle.machine.specs.Alloc.{after, searchFrom, searchPool}
-use Rattle.ledger.proofs.Sound.{sound-windowed}
+use Rattle.ledger.proofs.SoundBlock.{sound-windowed}
 use Rattle.ledger.proofs.Lies.{missed-lies}
 use Rattle.ledger.specs.Agrees.{viewOf, Agrees}
 use Rattle.ledger.specs.First.{NoPlace, LowestPlace, FirstFrom}
@@ -37,13 +37,13 @@ use Rattle.ledger.proofs.Calls.{room-u, missed-agrees}
 module _ (u t : List ℕ) (l : List Span) (p n : ℕ) (pos : 0 < n) where
   -- what a state needs for a search
   pub record Ready (s : State) : Type 0 where
-    pub stands : Stands (s .g) (s .w) (s .slots) (s .count) (s .blocks) (length u) (length t)
-    pub agrees : Agrees (s .g) (s .w) (s .slots) (s .count) (s .blocks) u t l
+    pub stands : Stands (s .granularity) (s .w) (s .slots) (s .count) (s .blocks) (length u) (length t)
+    pub agrees : Agrees (s .granularity) (s .w) (s .slots) (s .count) (s .blocks) u t l
     pub ends : (j : ℕ) → j < s .count → blockAt s j .end ≤ blockAt s j .area
 
   pub record Combed (s : State) (i : ℕ) (x : Searched) : Type 0 where
     pub ready : Ready (x .state)
-    pub only : x .state ≡ withTable s (s .count) (x .state .blocks) (s .order) (s .pool)
+    pub only : x .state ≡ withTable s (s .count) (x .state .blocks) (s .order) (s .pools)
     pub first : FirstFrom s u p n i (x .hit)
 
   -- one block more in front
@@ -86,13 +86,13 @@ module _ (u t : List ℕ) (l : List Span) (p n : ℕ) (pos : 0 < n) where
 
     windowed : Windowed b (slotOf (s .w) (b .slot) u)
     windowed =
-        sound-windowed b (slotOf (s .w) (b .slot) u) (slotOf (s .w) (b .slot) t) (viewOf (s .g) b l) (r .agrees .each i h)
-        (room-u (s .g) (s .w) (s .slots) (s .count) (s .blocks) u t (r .stands) l (r .agrees) i h) (r .ends i h)
+        sound-windowed b (slotOf (s .w) (b .slot) u) (slotOf (s .w) (b .slot) t) (viewOf (s .granularity) b l) (r .agrees .each i h)
+        (room-u (s .granularity) (s .w) (s .slots) (s .count) (s .blocks) u t (r .stands) l (r .agrees) i h) (r .ends i h)
 
     ready-put : (c : Block) → lookInto (s .w) b u n ≡ Missed c → c .end ≤ c .area → Ready (putBlock s i c)
     ready-put c e end = record {
-      stands = set-stands (s .g) (s .w) (s .slots) (s .count) (s .blocks) (length u) (length t) (r .stands) i h c (missed-lies (s .w) b u n c e);
-      agrees = missed-agrees (s .g) (s .w) (s .slots) (s .count) (s .blocks) u t (r .stands) l (r .agrees) i h (r .ends i h) n pos c e;
+      stands = set-stands (s .granularity) (s .w) (s .slots) (s .count) (s .blocks) (length u) (length t) (r .stands) i h c (missed-lies (s .w) b u n c e);
+      agrees = missed-agrees (s .granularity) (s .w) (s .slots) (s .count) (s .blocks) u t (r .stands) l (r .agrees) i h (r .ends i h) n pos c e;
       ends = λ j q. by-eq j i
           (λ z. subst (λ (j : ℕ). blockAt (putBlock s i c) j .end ≤ blockAt (putBlock s i c) j .area) (sym z)
           (subst (λ (x : Block). x .end ≤ x .area) (sym (getD-set-same (s .blocks) i c zeroBlock (omega (arith, h, r .stands .few)))) end))

@@ -16,8 +16,8 @@ use Rattle.block.specs.Record.{Placed}
 use Rattle.block.specs.Marking.{Painted, marked, shrunk, markAllocated, markReleased, markShrunk, emptied, fresh}
 use Rattle.block.specs.Search.{lookInto}
 use Rattle.machine.specs.Turn.{clearSlot}
-use Rattle.ledger.specs.Paint.{Piece, piece, In, strike, Sound}
-use Rattle.ledger.proofs.Sound.{mark-sound, release-sound, shrink-sound, emptied-sound, fresh-sound, tight-sound}
+use Rattle.ledger.specs.Paint.{Piece, piece, InPieces, strikePiece, SoundBlock}
+use Rattle.ledger.proofs.SoundBlock.{mark-sound, release-sound, shrink-sound, emptied-sound, fresh-sound, tight-sound}
 
 -- the words of a slot that was filled
 filled-slot : (w s : ℕ) (ws : List ℕ) (i n v : ℕ) → (s + 1) * w ≤ length ws → slotOf w s (fillSlot w s ws i n v) ≡ filled (slotOf w s ws) i n v
@@ -33,10 +33,10 @@ cleared-slot w s ws h = slot-own w s ws (replicate w 0) h (length-replicate {A =
 
 -- the record and both slots of a marking, release or shrink
 abbrev pub SoundAfter : ℕ → Block → Painted → List Piece → Type 0
-SoundAfter w b x l = Sound (x .block) (slotOf w (b .slot) (x .used)) (slotOf w (b .slot) (x .stop)) l
+SoundAfter w b x l = SoundBlock (x .block) (slotOf w (b .slot) (x .used)) (slotOf w (b .slot) (x .stop)) l
 
 module _ (w : ℕ) (b : Block) (u t : List ℕ) (l : List Piece) (p : Placed b w (length u) (length t))
-    (s : Sound b (slotOf w (b .slot) u) (slotOf w (b .slot) t) l) where
+    (s : SoundBlock b (slotOf w (b .slot) u) (slotOf w (b .slot) t) l) where
   room : b .area ≤ 32 * length (slotOf w (b .slot) u)
   room = omega (arith, length-slot w (b .slot) u (p .room), p .area)
 
@@ -49,17 +49,17 @@ module _ (w : ℕ) (b : Block) (u t : List ℕ) (l : List Piece) (p : Placed b w
   mark-slot i n pos fits free =
       let e : i + n - i ≡ n = omega arith in
       rw (filled-slot w (b .slot) u i (i + n - i) 1 (p .room), filled-slot w (b .slot) t (i + n - 1) 1 1 (p .stop-room))
-      (subst (λ (m : ℕ). Sound (marked b i (i + n)) (filled (slotOf w (b .slot) u) i (i + n - i) 1) (filled (slotOf w (b .slot) t) (i + n - 1) 1 1) (piece i m ∷ l)) e
+      (subst (λ (m : ℕ). SoundBlock (marked b i (i + n)) (filled (slotOf w (b .slot) u) i (i + n - i) 1) (filled (slotOf w (b .slot) t) (i + n - 1) 1 1) (piece i m ∷ l)) e
       (mark-sound b (slotOf w (b .slot) u) (slotOf w (b .slot) t) l s room stop-room (p .end) i (i + n) (omega arith) fits free))
 
   -- the span from i up to e is released
-  pub release-slot : (i e : ℕ) → i < e → In i (e - i) l → SoundAfter w b (markReleased w b i e u t) (strike i l)
+  pub release-slot : (i e : ℕ) → i < e → InPieces i (e - i) l → SoundAfter w b (markReleased w b i e u t) (strikePiece i l)
   release-slot i e some m =
       rw (filled-slot w (b .slot) u i (e - i) 0 (p .room), filled-slot w (b .slot) t (e - 1) 1 0 (p .stop-room))
       (release-sound b (slotOf w (b .slot) u) (slotOf w (b .slot) t) l s room stop-room (p .end) i e some m)
 
   -- of the span from i up to e the first n units stay
-  pub shrink-slot : (i n e : ℕ) → 0 < n → i + n < e → In i (e - i) l → SoundAfter w b (markShrunk w b (i + n) e u t) (piece i n ∷ strike i l)
+  pub shrink-slot : (i n e : ℕ) → 0 < n → i + n < e → InPieces i (e - i) l → SoundAfter w b (markShrunk w b (i + n) e u t) (piece i n ∷ strikePiece i l)
   shrink-slot i n e pos less m =
       let f : i + n - i ≡ n = omega arith in
       rw (
@@ -69,17 +69,17 @@ module _ (w : ℕ) (b : Block) (u t : List ℕ) (l : List Piece) (p : Placed b w
         filled-slot w (b .slot) t (e - 1) 1 0 (p .stop-room),
       )
       (subst
-      (λ (m : ℕ). Sound (shrunk b (i + n) e) (filled (slotOf w (b .slot) u) (i + n) (e - (i + n)) 0)
-      (filled (filled (slotOf w (b .slot) t) (e - 1) 1 0) (i + n - 1) 1 1) (piece i m ∷ strike i l)) f
+      (λ (m : ℕ). SoundBlock (shrunk b (i + n) e) (filled (slotOf w (b .slot) u) (i + n) (e - (i + n)) 0)
+      (filled (filled (slotOf w (b .slot) t) (e - 1) 1 0) (i + n - 1) 1 1) (piece i m ∷ strikePiece i l)) f
       (shrink-sound b (slotOf w (b .slot) u) (slotOf w (b .slot) t) l s room stop-room (p .end) i (i + n) e (omega arith) less m))
 
   -- a search for n units misses, and the record becomes c
-  pub miss-slot : (n : ℕ) → 0 < n → (c : Block) → lookInto w b u n ≡ Missed c → Sound c (slotOf w (b .slot) u) (slotOf w (b .slot) t) l
+  pub miss-slot : (n : ℕ) → 0 < n → (c : Block) → lookInto w b u n ≡ Missed c → SoundBlock c (slotOf w (b .slot) u) (slotOf w (b .slot) t) l
   miss-slot n pos c e = tight-sound w b u (slotOf w (b .slot) t) l n s room (p .end) pos c e
 
 -- ---- in a slot that was cleared
 module _ (w slot : ℕ) (u t : List ℕ) (hu : (slot + 1) * w ≤ length u) (ht : (slot + 1) * w ≤ length t) where
-  pub empty-slot : (b : Block) → Sound (emptied b) (slotOf w slot (clearSlot w slot u)) (slotOf w slot (clearSlot w slot t)) []
+  pub empty-slot : (b : Block) → SoundBlock (emptied b) (slotOf w slot (clearSlot w slot u)) (slotOf w slot (clearSlot w slot t)) []
   empty-slot b = rw (cleared-slot w slot u hu, cleared-slot w slot t ht) (emptied-sound b w)
 
   -- a new block with its first span of n units

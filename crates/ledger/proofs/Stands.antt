@@ -16,7 +16,7 @@ use Rattle.state.specs.Find.{leastFrom}
 use Rattle.state.proofs.Find.{least-is, least-unique}
 use Rattle.state.proofs.Tests.{and-left, and-right}
 use Rattle.machine.specs.Span.{starts, upTo, heldAt}
-use Rattle.ledger.specs.Paint.{Piece, Paints, In}
+use Rattle.ledger.specs.Paint.{Piece, Paints, InPieces}
 use Rattle.ledger.proofs.Pieces.{in-inside, held-in}
 use Rattle.ledger.proofs.Paints.{in-used, in-stop, in-last, before}
 
@@ -34,13 +34,13 @@ or-either false b e = inr e
 
 -- what an answer says of the pieces
 abbrev pub Stands : List Piece → ℕ → ℕ → Held → Type 0
-Stands l area i (Units x e) = (x ≡ i) × (i < e) × (e ≤ area) × In i (e - i) l
+Stands l area i (Units x e) = (x ≡ i) × (i < e) × (e ≤ area) × InPieces i (e - i) l
 Stands l area i NoStop = ⊥
-Stands l area i NoSpan = (n : ℕ) → In i n l → ⊥
+Stands l area i NoSpan = (n : ℕ) → InPieces i n l → ⊥
 
 module _ (l : List Piece) (area : ℕ) (u t : List ℕ) (p : Paints l area u t) where
   -- ---- a span starts where a piece starts
-  pub in-starts : (i n : ℕ) → In i n l → starts u t i ≡ true
+  pub in-starts : (i n : ℕ) → InPieces i n l → starts u t i ≡ true
   in-starts i n m =
       let f = in-inside l area i n (p .inside) m in
       rw (eq-eqb (bit u i) 1 (in-used l area u t p i n i m (omega arith) (omega arith)))
@@ -52,7 +52,7 @@ module _ (l : List Piece) (area : ℕ) (u t : List ℕ) (p : Paints l area u t) 
       (λ nf. or-right (eqb i 0 || eqb (bit u (i - 1)) 0) (eqb (bit t (i - 1)) 1) (eq-eqb (bit t (i - 1)) 1 (before l area u t p i n m ne nf)))))
 
   -- the piece that has such a unit starts with it
-  begins : (i s n : ℕ) → starts u t i ≡ true → In s n l → s ≤ i → i < s + n → s ≡ i
+  begins : (i s n : ℕ) → starts u t i ≡ true → InPieces s n l → s ≤ i → i < s + n → s ≡ i
   begins i s n y m a b =
       by-eq s i (λ e. e)
       (λ ne.
@@ -63,14 +63,14 @@ module _ (l : List Piece) (area : ℕ) (u t : List ℕ) (p : Paints l area u t) 
       (λ e. omega (arith, ne, in-last l area u t p s n (i - 1) m (omega (arith, ne)) (omega arith) (eqb-true (bit t (i - 1)) 1 e)))
       (or-either (eqb i 0 || eqb (bit u (i - 1)) 0) (eqb (bit t (i - 1)) 1) (and-right (eqb (bit u i) 1) (eqb i 0 || eqb (bit u (i - 1)) 0 || eqb (bit t (i - 1)) 1) y))))
 
-  pub starts-in : (i : ℕ) → starts u t i ≡ true → (n : ℕ) × In i n l
+  pub starts-in : (i : ℕ) → starts u t i ≡ true → (n : ℕ) × InPieces i n l
   starts-in i y =
       let v = eqb-true (bit u i) 1 (and-left (eqb (bit u i) 1) (eqb i 0 || eqb (bit u (i - 1)) 0 || eqb (bit t (i - 1)) 1) y) in
       let r = held-in l i (omega (arith, p .used i)) in
-      (r .1, subst (λ (s : ℕ). In s (r .1) l) (begins i (r .0) (r .1) y (r .2) (r .3) (r .4)) (r .2))
+      (r .1, subst (λ (s : ℕ). InPieces s (r .1) l) (begins i (r .0) (r .1) y (r .2) (r .3) (r .4)) (r .2))
 
   -- ---- and ends with the next stop bit
-  stop-at : (i n : ℕ) → In i n l → leastFrom i (area - i) (λ k. eqb (bit t k) 1) ≡ At (i + n - 1)
+  stop-at : (i n : ℕ) → InPieces i n l → leastFrom i (area - i) (λ k. eqb (bit t k) 1) ≡ At (i + n - 1)
   stop-at i n m =
       let f = in-inside l area i n (p .inside) m in
       least-unique i (i + (area - i)) (λ k. eqb (bit t k) 1) (leastFrom i (area - i) (λ k. eqb (bit t k) 1)) (At (i + n - 1))
@@ -82,7 +82,7 @@ module _ (l : List Piece) (area : ℕ) (u t : List ℕ) (p : Paints l area u t) 
         before = λ j a b. ne-eqb (bit t j) 1 (λ e. omega (arith, in-last l area u t p i n j m a (omega arith) e));
       })
 
-  pub in-stands : (i n : ℕ) → In i n l → heldAt u t area i ≡ Units i (i + n)
+  pub in-stands : (i n : ℕ) → InPieces i n l → heldAt u t area i ≡ Units i (i + n)
   in-stands i n m =
       let f = in-inside l area i n (p .inside) m in
       let e : i + n - 1 + 1 ≡ i + n = omega arith in
@@ -96,22 +96,22 @@ module _ (l : List Piece) (area : ℕ) (u t : List ℕ) (p : Paints l area u t) 
           let r = starts-in i y in
           let f = in-inside l area i (r .0) (p .inside) (r .1) in
           let e : i + r .0 - i ≡ r .0 = omega arith in
-          subst (Stands l area i) (sym (in-stands i (r .0) (r .1))) (refl, omega arith, omega arith, subst (λ (n : ℕ). In i n l) (sym e) (r .1))
+          subst (Stands l area i) (sym (in-stands i (r .0) (r .1))) (refl, omega arith, omega arith, subst (λ (n : ℕ). InPieces i n l) (sym e) (r .1))
       go false y = rw y (λ n m. not-both (starts u t i) (in-starts i n m) y)
 
   -- ---- by the answer
-  pub units-stand : (i x e : ℕ) → heldAt u t area i ≡ Units x e → (x ≡ i) × (i < e) × (e ≤ area) × In i (e - i) l
+  pub units-stand : (i x e : ℕ) → heldAt u t area i ≡ Units x e → (x ≡ i) × (i < e) × (e ≤ area) × InPieces i (e - i) l
   units-stand i x e h = subst (Stands l area i) h (stands i)
 
   pub stop-never-missing : (i : ℕ) → heldAt u t area i ≡ NoStop → ⊥
   stop-never-missing i h = subst (Stands l area i) h (stands i)
 
-  pub none-stands : (i n : ℕ) → heldAt u t area i ≡ NoSpan → In i n l → ⊥
+  pub none-stands : (i n : ℕ) → heldAt u t area i ≡ NoSpan → InPieces i n l → ⊥
   none-stands i n h = subst (Stands l area i) h (stands i) n
 
 -- two lists that paint the same maps have the same pieces
-pub same-pieces : (l m : List Piece) (area : ℕ) (u t : List ℕ) → Paints l area u t → Paints m area u t → (i n : ℕ) → In i n l → In i n m
+pub same-pieces : (l m : List Piece) (area : ℕ) (u t : List ℕ) → Paints l area u t → Paints m area u t → (i n : ℕ) → InPieces i n l → InPieces i n m
 same-pieces l m area u t p q i n a =
     let r = units-stand m area u t q i i (i + n) (in-stands l area u t p i n a) in
     let e : i + n - i ≡ n = omega arith in
-    subst (λ (k : ℕ). In i k m) e (r .3)
+    subst (λ (k : ℕ). InPieces i k m) e (r .3)

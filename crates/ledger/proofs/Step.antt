@@ -29,7 +29,7 @@ use Rattle.shape_facts.proofs.Cleared.{slots-room}
 use Rattle.shape_facts.proofs.Pool.{whole, units-kept}
 use Rattle.machine.specs.Turn.{turn, refuse, span}
 use Rattle.machine.specs.Create.{Asked, slotsOf, granted}
-use Rattle.machine.specs.Alloc.{allocTurn, markTurn, makeTurn}
+use Rattle.machine.specs.Alloc.{allocTurn, allocMarked, allocMade}
 use Rattle.machine.specs.Span.{queryTurn}
 use Rattle.machine.specs.Release.{releaseTurn}
 use Rattle.machine.specs.Shrink.{shrinkTurn}
@@ -49,12 +49,12 @@ use Rattle.ledger.proofs.Cleared.{zeros, zeros-clear, clear-either, cre
 use Rattle.ledger.proofs.Search.{Ready, Combed, search-combed}
 use Rattle.ledger.proofs.Finds.{Finds, nowhere, nothing, entry, finds, shaped, stands, query-at, query-held, query-entry, release-zero, release-at, release-held, release-entry, shrink-release, shrink-zero, shrink-at, shrink-held, shrink-units, units-more, units-same, units-less}
 use Rattle.ledger.proofs.Right.{Right, right-of, same-right, again-right, cut-right, free-right}
-use Rattle.ledger.proofs.Alloc.{Goes, refused, hit, full, made, goes, mark-right}
+use Rattle.ledger.proofs.Alloc.{Ways, refused, hit, full, made, goes, mark-right}
 use Rattle.ledger.proofs.Made.{make-right}
 
 -- ---- what a soft reset leaves of the record
 abbrev Alike : State → State → Type 0
-Alike s r = (r .g ≡ s .g) × (r .w ≡ s .w) × (r .slots ≡ s .slots) × (r .live ≡ 0)
+Alike s r = (r .granularity ≡ s .granularity) × (r .w ≡ s .w) × (r .slots ≡ s .slots) × (r .live ≡ 0)
 
 kept-alike : (s : State) (n : ℕ) → Alike s (kept s n)
 unfolding kept
@@ -72,7 +72,7 @@ units-some size g pos ne = go (unitsOf size g) (units-hold size g pos)
     go (suc n) h = omega arith
 
 module _ (s : State) (u t : List ℕ) (l : List Span) (o : Sound s u t l) (z : Sized s) where
-  abbrev st : Stands (s .g) (s .w) (s .slots) (s .count) (s .blocks) (length u) (length t)
+  abbrev st : Stands (s .granularity) (s .w) (s .slots) (s .count) (s .blocks) (length u) (length t)
   st = stands s u t l o (z .blocks)
 
   abbrev f : Shaped s (length u) (length t)
@@ -88,7 +88,7 @@ module _ (s : State) (u t : List ℕ) (l : List Span) (o : Sound s u t l) (z : S
       go : Finds s u t l a → Right l (queryTurn s u t a)
       go (nowhere e none) = subst (Right l) (sym (query-at s u t l o (z .blocks) a Nothing e)) (refused-right InvalidArgument)
       go (nothing j h e y none) = subst (Right l) (sym (query-held s u t l o (z .blocks) a j NoSpan e y)) (refused-right InvalidArgument)
-      go (entry j i k h e y some fits ea mem used) = subst (Right l) (sym (query-entry s u t l o (z .blocks) a j i k h e y)) (same-right s u t l o z (Shown (span a ((k - i) * s .g))) refl)
+      go (entry j i k h e y some fits ea mem used) = subst (Right l) (sym (query-entry s u t l o (z .blocks) a j i k h e y)) (same-right s u t l o z (Shown (span a ((k - i) * s .granularity))) refl)
 
   -- ---- release
   release-right : (a : ℕ) → Right l (releaseTurn s u t a)
@@ -112,12 +112,12 @@ module _ (s : State) (u t : List ℕ) (l : List Span) (o : Sound s u t l) (z : S
       go ns ne (nowhere e none) = subst (Right l) (sym (shrink-at s u t l o (z .blocks) a size Nothing ns ne e)) (refused-right InvalidArgument)
       go ns ne (nothing j h e y none) = subst (Right l) (sym (shrink-held s u t l o (z .blocks) a size j NoSpan ns ne e y)) (refused-right InvalidArgument)
       go ns ne (entry j i k h e y some fits ea mem used) =
-          let n = unitsOf size (s .g) in
+          let n = unitsOf size (s .granularity) in
           let is = shrink-units s u t l o (z .blocks) a size j i k ns ne h e y used in
           by-le n (k - i)
           (λ p. by-eq n (k - i)
-          (λ q. subst (Right l) (sym (is ∙ units-same s u t l o (z .blocks) a j i k n h q ∙ ap (λ (m : ℕ). turn (Shrunk (span a (m * s .g))) s u t) q)) (again-right s u t l o z a j i k h some fits ea mem))
-          (λ nq. subst (Right l) (sym (is ∙ units-less s u t l o (z .blocks) a j i k n (omega (arith, nq)))) (cut-right s u t l o z a j i k h some fits ea mem n (units-some size (s .g) (st .unit) ns) (omega (arith, nq)))))
+          (λ q. subst (Right l) (sym (is ∙ units-same s u t l o (z .blocks) a j i k n h q ∙ ap (λ (m : ℕ). turn (Shrunk (span a (m * s .granularity))) s u t) q)) (again-right s u t l o z a j i k h some fits ea mem))
+          (λ nq. subst (Right l) (sym (is ∙ units-less s u t l o (z .blocks) a j i k n (omega (arith, nq)))) (cut-right s u t l o z a j i k h some fits ea mem n (units-some size (s .granularity) (st .unit) ns) (omega (arith, nq)))))
           (λ p. subst (Right l) (sym (is ∙ units-more s u t l o (z .blocks) a j i k n p)) (refused-right InvalidState))
 
   -- ---- alloc
@@ -146,7 +146,7 @@ module _ (s : State) (u t : List ℕ) (l : List Span) (o : Sound s u t l) (z : S
     live-r : r .live ≡ length l
     live-r = left .live ∙ o .live
 
-    hit-right : (j i : ℕ) → searchFor s u bytes .hit ≡ At j i → Right l (markTurn r u t j i n)
+    hit-right : (j i : ℕ) → searchFor s u bytes .hit ≡ At j i → Right l (allocMarked r u t j i n)
     hit-right j i e =
         let q = subst (Place u (length t) p n pos r) e (left .place) in
         let d = subst (FirstFrom s u p n 0) e (combed .first) in
@@ -158,20 +158,20 @@ module _ (s : State) (u t : List ℕ) (l : List Span) (o : Sound s u t l) (z : S
     full-right = right-of l (refuse NoMapping r u t) (combed .ready .stands .unit) (combed .ready .stands .whole) (combed .ready .agrees) live-r
 
     abbrev Made : (at slot : ℕ) → Type 0
-    Made at slot = Right l (makeTurn r u t p n (newSize r p bytes) at slot)
+    Made at slot = Right l (allocMade r u t p n (newSize r p bytes) at slot)
 
     made-right : (at slot : ℕ) → Places r p bytes at slot → Made at slot
     made-right at slot m =
         let a = seeks-ready s u t size bytes k in
-        let same : r .pools ≡ s .pools = ap (λ (x : State). x .pools) (combed .only) in
+        let same : r .poolcount ≡ s .poolcount = ap (λ (x : State). x .poolcount) (combed .only) in
         make-right r u t l (left .shaped) (sized-search s z u p n) (combed .ready .stands) (combed .ready .agrees) live-r p n bytes at slot
-        (omega (arith, same, pool-below bytes (s .g) (s .pools) (a .shaped .head .pools-listed))) pos (a .some) (a .most)
+        (omega (arith, same, pool-below bytes (s .granularity) (s .poolcount) (a .shaped .head .pools-listed))) pos (a .some) (a .most)
         (units-kept s r (left .pools) p p n n bytes refl refl (whole s (length u) (length t) bytes a)) m
 
   alloc-right : (size : ℕ) → Right l (allocTurn s u t size)
   alloc-right size = go (goes s u t size (o .shape))
     where
-      go : Goes s u t size → Right l (allocTurn s u t size)
+      go : Ways s u t size → Right l (allocTurn s u t size)
       go (refused k e q) = subst (Right l) (sym q) (refused-right _)
       go (hit bytes j i k e q) = subst (Right l) (sym q) (hit-right size bytes k j i e)
       go (full bytes k e why q) = subst (Right l) (sym q) (full-right size bytes k)
@@ -206,7 +206,7 @@ module _ (s : State) (u t : List ℕ) (l : List Span) (o : Sound s u t l) (z : S
 
   empty-right : Right l (turn Reset (emptyTable s) cu ct)
   empty-right = record {
-    agrees = emptied-agrees (s .g) (s .w) (s .slots) 0 (emptyTable s .blocks) cu ct (λ j h. absurd (omega arith)) all-clear;
+    agrees = emptied-agrees (s .granularity) (s .w) (s .slots) 0 (emptyTable s .blocks) cu ct (λ j h. absurd (omega arith)) all-clear;
     live = refl;
     enough = omega arith;
   }
@@ -217,8 +217,8 @@ module _ (s : State) (u t : List ℕ) (l : List Span) (o : Sound s u t l) (z : S
       let q = kept-alike s (s .count) in
       let k = kept-from s (s .count) (omega (arith, f .head .count-slots, f .head .slots-high)) in
       record {
-        agrees = subst₂ (λ (w slots : ℕ). Agrees (r .g) w slots (r .count) (r .blocks) cu ct []) (sym (q .1)) (sym (q .2))
-            (emptied-agrees (r .g) (s .w) (s .slots) (r .count) (r .blocks) cu ct
+        agrees = subst₂ (λ (w slots : ℕ). Agrees (r .granularity) w slots (r .count) (r .blocks) cu ct []) (sym (q .1)) (sym (q .2))
+            (emptied-agrees (r .granularity) (s .w) (s .slots) (r .count) (r .blocks) cu ct
             (λ j h. (blockAt s (k .from j), k .is j h, own-u (k .from j) (k .low j h), own-t (k .from j) (k .low j h))) all-clear);
         live = q .3;
         enough = omega (arith, q .3);
@@ -234,7 +234,7 @@ created-right a u t l =
     let room = slots-room (a .w) (length u) (length t) in
     let x = granted a slots u t in
     record {
-      agrees = emptied-agrees (x .state .g) (a .w) slots 0 (x .state .blocks) (x .used) (x .stop) (λ j h. absurd (omega arith))
+      agrees = emptied-agrees (x .state .granularity) (a .w) slots 0 (x .state .blocks) (x .used) (x .stop) (λ j h. absurd (omega arith))
           (λ k h. (zeros-clear (a .w) k (x .used) (created-zeros (a .w) slots k u h (room .0)), zeros-clear (a .w) k (x .stop) (created-zeros (a .w) slots k t h (room .1))));
       live = refl;
       enough = omega arith;

@@ -16,7 +16,7 @@ use Rattle.state.specs.declared.State.{State}
 use Rattle.state.specs.declared.Span.{Span}
 use Rattle.state.specs.Table.{zeroBlock, blockAt}
 use Rattle.shape.specs.Shaped.{Shaped}
-use Rattle.ledger.specs.Paint.{Piece, Sound as SoundBlock}
+use Rattle.ledger.specs.Paint.{Piece, SoundBlock}
 use Rattle.ledger.proofs.Lies.{Lies as LiesAt}
 use Rattle.ledger.specs.Ledger.{In, strike}
 use Rattle.ledger.specs.Agrees.{within, viewOf, Lies, at, Homes, Clear, Agrees}
@@ -48,7 +48,7 @@ beside-out b c a o e =
     let r = within-range (b .base) (b .size) a e in
     within-false (c .base) (c .size) a (⊎-elim (λ p. inl (omega arith)) (λ p. inr (omega arith)) o)
 
-pub stands-of : (s : State) (u t : ℕ) → Shaped s u t → length (s .blocks) ≡ 64 → Stands (s .g) (s .w) (s .slots) (s .count) (s .blocks) u t
+pub stands-of : (s : State) (u t : ℕ) → Shaped s u t → length (s .blocks) ≡ 64 → Stands (s .granularity) (s .w) (s .slots) (s .count) (s .blocks) u t
 stands-of s u t f len = record {
   unit = omega (arith, f .head .g-low);
   used-room = f .lent .used-room;

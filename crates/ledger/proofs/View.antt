@@ -14,7 +14,7 @@ use Rattle.state.specs.declared.Span.{Span}
 use Rattle.state.proofs.Tests.{and-left, and-right, and-both, and-fails-left, and-fails-right}
 use Rattle.shape.proofs.Bools.{by-bool}
 use Rattle.machine.specs.Turn.{span}
-use Rattle.ledger.specs.Paint.{Piece, piece, In as InPieces, strike as strikePiece}
+use Rattle.ledger.specs.Paint.{Piece, piece, InPieces, strikePiece}
 use Rattle.ledger.specs.Ledger.{In, strike}
 use Rattle.ledger.specs.Agrees.{within, view, viewOf, Lies}
 

@@ -19,8 +19,8 @@ use Rattle.state.specs.Table.{blockAt, poolAt}
 use Rattle.state.specs.Change.{inserted}
 use Rattle.machine.specs.Turn.{Turn, withLive, clearSlot}
 use Rattle.machine.specs.Create.{Asked, slotsOf, granted}
-use Rattle.machine.specs.Alloc.{markTurn, makeTurn}
-use Rattle.machine.specs.Release.{lessUsed, freeTurn, releaseTurn}
+use Rattle.machine.specs.Alloc.{allocMarked, allocMade}
+use Rattle.machine.specs.Release.{lessUsed, releaseUnits, releaseTurn}
 use Rattle.machine.specs.Reset.{clearBlocks}
 use Rattle.machine.specs.Machine.{Call, create, alloc, release, shrink, query, softReset, hardReset, step}
 use Rattle.shape_kept.proofs.Cases.{poolFor, unitsFor, searchFor, newSize, settle-cases, create-cases, query-cases, release-cases, shrink-cases, reset-cases, alloc-cases}
@@ -65,17 +65,17 @@ created-words a u t p q =
     let n = slotsOf (a .w) (length u) (length t) * a .w in
     (words-append (replicate n 0) (drop n u) (words-zeros n) (words-drop n u p), words-append (replicate n 0) (drop n t) (words-zeros n) (words-drop n t q))
 
-mark-words : (s : State) (u t : List ℕ) → Words u → Words t → (j i n : ℕ) → Wordy (markTurn s u t j i n)
+mark-words : (s : State) (u t : List ℕ) → Words u → Words t → (j i n : ℕ) → Wordy (allocMarked s u t j i n)
 mark-words s u t p q j i n =
     (fill-words (s .w) (blockAt s j .slot) u i (i + n - i) 1 (lit< tt) p, fill-words (s .w) (blockAt s j .slot) t (i + n - 1) 1 1 (lit< tt) q)
 
-make-words : (s : State) (u t : List ℕ) → Words u → Words t → (p n size at slot : ℕ) → Wordy (makeTurn s u t p n size at slot)
+make-words : (s : State) (u t : List ℕ) → Words u → Words t → (p n size at slot : ℕ) → Wordy (allocMade s u t p n size at slot)
 make-words s u t a b p n size at slot =
     mark-words (inserted s (fresh at size p slot (unitsOf size (poolAt s p .granularity)) n)) (clearSlot (s .w) slot u) (clearSlot (s .w) slot t)
     (clear-words (s .w) slot u a) (clear-words (s .w) slot t b) (s .count) 0 n
 
 module _ (s : State) (u t : List ℕ) (p : Words u) (q : Words t) where
-  free-words : (a j i e : ℕ) → Wordy (freeTurn s u t a j i e)
+  free-words : (a j i e : ℕ) → Wordy (releaseUnits s u t a j i e)
   free-words a j i e =
       let b = blockAt s j in
       let m = markReleased (s .w) b i e u t in

@@ -14,7 +14,7 @@ use Rattle.state.specs.declared.State.{State}
 use Rattle.state.specs.declared.Span.{Span}
 use Rattle.state.specs.Table.{zeroBlock}
 use Rattle.state.specs.Shape.{goodShape}
-use Rattle.ledger.specs.Paint.{Piece, piece, Sound as SoundBlock}
+use Rattle.ledger.specs.Paint.{Piece, piece, SoundBlock}
 
 -- ---- the ledger seen from one block
 -- the address is one of the size bytes from base on
@@ -57,5 +57,5 @@ pub record Agrees (g w slots count : ℕ) (blocks : List Block) (u t : List ℕ)
 -- ---- the whole: not BadShape, both maps are what the ledger paints, and the counts are its own
 pub record Sound (s : State) (u t : List ℕ) (l : List Span) : Type 0 where
   pub shape : goodShape s (length u) (length t) ≡ true
-  pub agrees : Agrees (s .g) (s .w) (s .slots) (s .count) (s .blocks) u t l
+  pub agrees : Agrees (s .granularity) (s .w) (s .slots) (s .count) (s .blocks) u t l
   pub live : s .live ≡ length l

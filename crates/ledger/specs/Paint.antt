@@ -28,14 +28,14 @@ unfoldable pub ends : Piece → ℕ → ℕ
 ends x k = pick (eqb (x .start + x .len) (k + 1)) 1 0
 
 -- how many pieces have unit k
-unfoldable pub held : List Piece → ℕ → ℕ
-held [] k = 0
-held (x ∷ l) k = has x k + held l k
+unfoldable pub holders : List Piece → ℕ → ℕ
+holders [] k = 0
+holders (x ∷ l) k = has x k + holders l k
 
 -- how many pieces end with unit k
-unfoldable pub ended : List Piece → ℕ → ℕ
-ended [] k = 0
-ended (x ∷ l) k = ends x k + ended l k
+unfoldable pub enders : List Piece → ℕ → ℕ
+enders [] k = 0
+enders (x ∷ l) k = ends x k + enders l k
 
 -- the units of all pieces
 unfoldable pub units : List Piece → ℕ
@@ -43,30 +43,30 @@ units [] = 0
 units (x ∷ l) = x .len + units l
 
 -- every piece has a unit, and none lies past the area
-abbrev pub Inside : List Piece → ℕ → Type 0
-Inside [] area = Unit {0}
-Inside (x ∷ l) area = (0 < x .len) × (x .start + x .len ≤ area) × Inside l area
+abbrev pub InsideArea : List Piece → ℕ → Type 0
+InsideArea [] area = Unit {0}
+InsideArea (x ∷ l) area = (0 < x .len) × (x .start + x .len ≤ area) × InsideArea l area
 
 -- A unit's used bit is the number of pieces that have it, its stop bit the number of pieces that end with it, on all the words of the slot. A bit is 0 or
--- 1, so no unit is held twice; and a unit that no piece asks for is 0 in both maps.
+-- 1, so no unit is holders twice; and a unit that no piece asks for is 0 in both maps.
 pub record Paints (l : List Piece) (area : ℕ) (u t : List ℕ) : Type 0 where
-  pub inside : Inside l area
-  pub used : (k : ℕ) → bit u k ≡ held l k
-  pub stop : (k : ℕ) → bit t k ≡ ended l k
+  pub inside : InsideArea l area
+  pub used : (k : ℕ) → bit u k ≡ holders l k
+  pub stop : (k : ℕ) → bit t k ≡ enders l k
 
 -- n units from start on are a piece of the list
-abbrev pub In : ℕ → ℕ → List Piece → Type 0
-In start n [] = ⊥
-In start n (x ∷ l) = ((x .start ≡ start) × (x .len ≡ n)) ⊎ In start n l
+abbrev pub InPieces : ℕ → ℕ → List Piece → Type 0
+InPieces start n [] = ⊥
+InPieces start n (x ∷ l) = ((x .start ≡ start) × (x .len ≡ n)) ⊎ InPieces start n l
 
 -- the list without its piece at start
-unfoldable pub strike : ℕ → List Piece → List Piece
-strike start [] = []
-strike start (x ∷ l) = pick (eqb (x .start) start) l (x ∷ strike start l)
+unfoldable pub strikePiece : ℕ → List Piece → List Piece
+strikePiece start [] = []
+strikePiece start (x ∷ l) = pick (eqb (x .start) start) l (x ∷ strikePiece start l)
 
 -- A block's record and its words u and t agree with the pieces: both maps are painted, the used count is the pieces' units, no free unit lies outside the
 -- window, and a block that isn't dirty has its exact largest run
-pub record Sound (b : Block) (u t : List ℕ) (l : List Piece) : Type 0 where
+pub record SoundBlock (b : Block) (u t : List ℕ) (l : List Piece) : Type 0 where
   pub paints : Paints l (b .area) u t
   pub count : b .used ≡ units l
   pub window : (k : ℕ) → k < b .area → bit u k ≡ 0 → (b .start ≤ k) × (k < b .end)

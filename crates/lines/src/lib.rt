@@ -39,13 +39,13 @@ pub fn put_answer(out: &mut [u8], at: usize, answer: Answer) -> usize
     ensures { λ r. ⌜ Puts (now (out .entry)) at (answerLine answer) (now (out .exit)) r ⌝ }
 {
     match answer {
-        Answer::Created(size, g, pools) => text::put_line3(
+        Answer::Created(size, granularity, poolcount) => text::put_line3(
             out,
             at,
             b"created",
             size,
-            g,
-            pools as u64,
+            granularity,
+            poolcount as u64,
         ),
         Answer::Granted(x) => put_granted(out, at, x),
         Answer::Shown(x) => put_granted(out, at, x),
@@ -69,9 +69,9 @@ fn put_granted(out: &mut [u8], at: usize, x: Span) -> usize
 fn used_units(s: State) -> u64
     ensures { λ r. ⌜ r ≡ usedUnits s ⌝ }
 {
-    let a = s.pool[0];
-    let b = s.pool[1];
-    let c = s.pool[2];
+    let a = s.pools[0];
+    let b = s.pools[1];
+    let c = s.pools[2];
     a.used as u64 + b.used as u64 + c.used as u64
 }
 

@@ -8,7 +8,7 @@ use lib.ListN.{length}
 use Rattle.numbers.specs.Pick.{pick}
 use Rattle.numbers.specs.Units.{unitsOf, bytesOf}
 use Rattle.sizes.specs.declared.Rounded.{Rounded}
-use Rattle.sizes.specs.declared.Rounded.the-variants.{To, Refused as tooBad}
+use Rattle.sizes.specs.declared.Rounded.the-variants.{To, Refused as unroundable}
 use Rattle.sizes.specs.Pools.{poolOf}
 use Rattle.sizes.specs.Sizes.{rounded}
 use Rattle.state.specs.declared.State.{State}
@@ -32,17 +32,17 @@ use Rattle.state.specs.Find.{lookup, lowestPlace, lowestSlot, newestSize}
 use Rattle.sizes.specs.Sizes.{idealSize}
 use Rattle.machine.specs.Turn.{Turn, turn, refuse, span, putPool, withLive, withCounts, unitOf, clearSlot}
 use Rattle.machine.specs.Create.{Asked, slotsOf, grantable, granted, createTurn}
-use Rattle.machine.specs.Alloc.{searchPool, makeTurn, placeTurn, searchedTurn, sizeTurn, allocTurn}
-use Rattle.machine.specs.Span.{heldIn, shownTurn, queriedTurn, queryTurn}
-use Rattle.machine.specs.Release.{lessUsed, freeTurn, releasedTurn, givenBackTurn, releaseTurn}
-use Rattle.machine.specs.Shrink.{cutTurn, unitsTurn, shrunkTurn, cutDownTurn, shrinkTurn}
+use Rattle.machine.specs.Alloc.{searchPool, allocMade, allocPlaced, allocSearched, allocRounded, allocTurn}
+use Rattle.machine.specs.Span.{heldIn, queryHeld, queryFound, queryTurn}
+use Rattle.machine.specs.Release.{lessUsed, releaseUnits, releaseHeld, releaseFound, releaseTurn}
+use Rattle.machine.specs.Shrink.{shrinkTail, shrinkUnits, shrinkHeld, shrinkFound, shrinkTurn}
 use Rattle.machine.specs.Reset.{emptyTable, clearBlocks, kept, resetTurn}
 use Rattle.machine.specs.Machine.{Call, create, alloc, release, shrink, query, softReset, hardReset, orBefore, step}
-use Rattle.machine.specs.Refusals.{Leaves, searchedFor, searchedBy}
+use Rattle.machine.specs.Refusals.{LeftByRefusal, searchedFor, searchedBy}
 
 module _ (s : State) (u t : List ℕ) where
   abbrev Still : State → Turn → Type 0
-  Still r x = Leaves s r u t x (x .answer)
+  Still r x = LeftByRefusal s r u t x (x .answer)
 
   stays : (why : Refusal) → Still s (refuse why s u t)
   stays InvalidArgument = (refl, refl, refl)
@@ -58,18 +58,18 @@ module _ (s : State) (u t : List ℕ) where
   shaped r x h false = h
 
   -- ---- query
-  shown-still : (a j : ℕ) (h : Held) → Still s (shownTurn s u t a j h)
+  shown-still : (a j : ℕ) (h : Held) → Still s (queryHeld s u t a j h)
   shown-still a j NoSpan = stays InvalidArgument
   shown-still a j NoStop = stays Damaged
   shown-still a j (Units i e) = tt
 
-  queried-still : (a : ℕ) (f : Found) → Still s (queriedTurn s u t a f)
+  queried-still : (a : ℕ) (f : Found) → Still s (queryFound s u t a f)
   queried-still a Nothing = stays InvalidArgument
   queried-still a (slotAt j) = shown-still a j (heldIn s u t a j)
 
   query-still : (a : ℕ) → Still s (queryTurn s u t a)
   unfolding queryTurn
-  query-still a = shaped s (queriedTurn s u t a (lookup s a)) (queried-still a (lookup s a)) (badShape s (length u) (length t))
+  query-still a = shaped s (queryFound s u t a (lookup s a)) (queried-still a (lookup s a)) (badShape s (length u) (length t))
 
   -- an address that is not 0
   addressed : (x : Turn) → Still s x → (none : Bool) → Still s (pick none (refuse InvalidArgument s u t) x)
@@ -88,42 +88,42 @@ module _ (s : State) (u t : List ℕ) where
   damaged x h true = stays Damaged
   damaged x h false = h
 
-  freed-still : (a j i e : ℕ) → Still s (freeTurn s u t a j i e)
+  freed-still : (a j i e : ℕ) → Still s (releaseUnits s u t a j i e)
   freed-still a j i e =
       let m = markReleased (s .w) (blockAt s j) i e u t in
       let r = withLive (lessUsed s j (m .block) (e - i)) (s .live - 1) in
       settled-still (span a (bytesOf (e - i) (unitOf s (blockAt s j)))) r (m .used) (m .stop) j (not (eqb (blockAt r j .used) 0)) (not (eqb (poolAt r (blockAt r j .pool) .empty) 0) || r .immediate)
 
-  released-still : (a j : ℕ) (h : Held) → Still s (releasedTurn s u t a j h)
+  released-still : (a j : ℕ) (h : Held) → Still s (releaseHeld s u t a j h)
   released-still a j NoSpan = stays InvalidArgument
   released-still a j NoStop = stays Damaged
-  released-still a j (Units i e) = damaged (freeTurn s u t a j i e) (freed-still a j i e) (ltb (blockAt s j .used) (e - i) || eqb (s .live) 0)
+  released-still a j (Units i e) = damaged (releaseUnits s u t a j i e) (freed-still a j i e) (ltb (blockAt s j .used) (e - i) || eqb (s .live) 0)
 
-  given-back-still : (a : ℕ) (f : Found) → Still s (givenBackTurn s u t a f)
+  given-back-still : (a : ℕ) (f : Found) → Still s (releaseFound s u t a f)
   given-back-still a Nothing = stays InvalidState
   given-back-still a (slotAt j) = released-still a j (heldIn s u t a j)
 
   release-still : (a : ℕ) → Still s (releaseTurn s u t a)
   unfolding releaseTurn
   release-still a =
-      let x = givenBackTurn s u t a (lookup s a) in
+      let x = releaseFound s u t a (lookup s a) in
       shaped s (pick (eqb a 0) (refuse InvalidArgument s u t) x) (addressed x (given-back-still a (lookup s a)) (eqb a 0)) (badShape s (length u) (length t))
 
   -- ---- shrink
   units-still : (a j i e n : ℕ) (more same : Bool)
-      → Still s (pick more (refuse InvalidState s u t) (pick same (turn (Shrunk (span a (bytesOf n (unitOf s (blockAt s j))))) s u t) (cutTurn s u t a j i e n)))
+      → Still s (pick more (refuse InvalidState s u t) (pick same (turn (Shrunk (span a (bytesOf n (unitOf s (blockAt s j))))) s u t) (shrinkTail s u t a j i e n)))
   units-still a j i e n true same = stays InvalidState
   units-still a j i e n false true = tt
   units-still a j i e n false false = tt
 
-  shrunk-still : (a size j : ℕ) (h : Held) → Still s (shrunkTurn s u t a size j h)
+  shrunk-still : (a size j : ℕ) (h : Held) → Still s (shrinkHeld s u t a size j h)
   shrunk-still a size j NoSpan = stays InvalidArgument
   shrunk-still a size j NoStop = stays Damaged
   shrunk-still a size j (Units i e) =
       let n = unitsOf size (unitOf s (blockAt s j)) in
-      damaged (unitsTurn s u t a j i e n) (units-still a j i e n (ltb (e - i) n) (eqb n (e - i))) (ltb (blockAt s j .used) (e - i))
+      damaged (shrinkUnits s u t a j i e n) (units-still a j i e n (ltb (e - i) n) (eqb n (e - i))) (ltb (blockAt s j .used) (e - i))
 
-  cut-down-still : (a size : ℕ) (f : Found) → Still s (cutDownTurn s u t a size f)
+  cut-down-still : (a size : ℕ) (f : Found) → Still s (shrinkFound s u t a size f)
   cut-down-still a size Nothing = stays InvalidArgument
   cut-down-still a size (slotAt j) = shrunk-still a size j (heldIn s u t a j)
 
@@ -131,10 +131,10 @@ module _ (s : State) (u t : List ℕ) where
   unfolding shrinkTurn
   shrink-still a size = go (eqb size 0)
     where
-      go : (none : Bool) → Still s (pick none (releaseTurn s u t a) (pick (badShape s (length u) (length t)) (refuse BadShape s u t) (pick (eqb a 0) (refuse InvalidArgument s u t) (cutDownTurn s u t a size (lookup s a)))))
+      go : (none : Bool) → Still s (pick none (releaseTurn s u t a) (pick (badShape s (length u) (length t)) (refuse BadShape s u t) (pick (eqb a 0) (refuse InvalidArgument s u t) (shrinkFound s u t a size (lookup s a)))))
       go true = release-still a
       go false =
-          let x = cutDownTurn s u t a size (lookup s a) in
+          let x = shrinkFound s u t a size (lookup s a) in
           shaped s (pick (eqb a 0) (refuse InvalidArgument s u t) x) (addressed x (cut-down-still a size (lookup s a)) (eqb a 0)) (badShape s (length u) (length t))
 
   -- ---- reset
@@ -148,26 +148,26 @@ module _ (s : State) (u t : List ℕ) where
   fitting-still r x h true = h
   fitting-still r x h false = (refl, refl, refl)
 
-  placed-still : (r : State) (p n size : ℕ) (x : Place) (f : Found) → Still r (placeTurn r u t p n size x f)
-  placed-still r p n size (Address at) (slotAt slot) = fitting-still r (makeTurn r u t p n size at slot) tt (leb (unitsOf (unitsOf size (poolAt r p .granularity)) 32) (r .w))
+  placed-still : (r : State) (p n size : ℕ) (x : Place) (f : Found) → Still r (allocPlaced r u t p n size x f)
+  placed-still r p n size (Address at) (slotAt slot) = fitting-still r (allocMade r u t p n size at slot) tt (leb (unitsOf (unitsOf size (poolAt r p .granularity)) 32) (r .w))
   placed-still r p n size (Address at) Nothing = (refl, refl, refl)
   placed-still r p n size noPlace f = (refl, refl, refl)
 
-  searched-still : (r : State) (p n size : ℕ) (h : Hit) → Still r (searchedTurn r u t p n size h)
+  searched-still : (r : State) (p n size : ℕ) (h : Hit) → Still r (allocSearched r u t p n size h)
   searched-still r p n size (At j i) = tt
   searched-still r p n size Nowhere = placed-still r p n (idealSize (newestSize r p) size) (lowestPlace r (idealSize (newestSize r p) size)) (lowestSlot r)
 
-  sized-still : (x : Rounded) → Still (searchedFor s u x) (sizeTurn s u t x)
+  sized-still : (x : Rounded) → Still (searchedFor s u x) (allocRounded s u t x)
   sized-still (To size) =
-      let p = poolOf size (s .g) (s .pools) in
+      let p = poolOf size (s .granularity) (s .poolcount) in
       let n = unitsOf size (poolAt s p .granularity) in
       searched-still (searchPool s u p n .state) p n size (searchPool s u p n .hit)
-  sized-still (tooBad k) = stays (pick (eqb k 1) InvalidArgument TooLarge)
+  sized-still (unroundable k) = stays (pick (eqb k 1) InvalidArgument TooLarge)
 
-  alloc-still : (size : ℕ) → Still (searchedFor s u (rounded size (s .g))) (allocTurn s u t size)
+  alloc-still : (size : ℕ) → Still (searchedFor s u (rounded size (s .granularity))) (allocTurn s u t size)
   unfolding allocTurn
   alloc-still size =
-      shaped (searchedFor s u (rounded size (s .g))) (sizeTurn s u t (rounded size (s .g))) (sized-still (rounded size (s .g))) (badShape s (length u) (length t))
+      shaped (searchedFor s u (rounded size (s .granularity))) (allocRounded s u t (rounded size (s .granularity))) (sized-still (rounded size (s .granularity))) (badShape s (length u) (length t))
 
   -- ---- create
   create-still : (a : Asked) → let x = createTurn a u t in Still s (orBefore s x (x .answer))
@@ -179,7 +179,7 @@ module _ (s : State) (u t : List ℕ) where
       go false = stays InvalidArgument
 
   -- ---- any call
-  pub refusal-leaves : (c : Call) → Leaves s (searchedBy s u c) u t (step s u t c) (step s u t c .answer)
+  pub refusal-leaves : (c : Call) → LeftByRefusal s (searchedBy s u c) u t (step s u t c) (step s u t c .answer)
   refusal-leaves (create a) = create-still a
   refusal-leaves (alloc size) = alloc-still size
   refusal-leaves (release a) = release-still a

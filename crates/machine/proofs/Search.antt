@@ -25,7 +25,7 @@ lookedAt u p n s i = pick (eqb (blockAt s i .pool) p) (lookInto (s .w) (blockAt 
 
 -- a block put back as it was
 pub put-same-block : (s : State) (i : ℕ) → putBlock s i (blockAt s i) ≡ s
-put-same-block s i = ap (λ (bs : List Block). withTable s (s .count) bs (s .order) (s .pool)) (set-getD (s .blocks) i zeroBlock)
+put-same-block s i = ap (λ (bs : List Block). withTable s (s .count) bs (s .order) (s .pools)) (set-getD (s .blocks) i zeroBlock)
 
 turn-found : (s : State) (i unit : ℕ) (rest : State → Searched) (c : Bool) (l : Looked) → pick c l (Missed (blockAt s i)) ≡ Found unit
     → pick c (after s i rest l) (rest s) ≡ searched (At i unit) s

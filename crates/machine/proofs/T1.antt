@@ -6,7 +6,7 @@ use lib.ListN.{replicate}
 use Rattle.bits.specs.Bits.{digit, bit, put, setBit, filled}
 use Rattle.runs.specs.Seek.{freeFrom, lowestFit, longestRun, lastEnd, seek}
 use Rattle.block.specs.Marking.{moved, marked, released}
-use Rattle.block.specs.Search.{looks, lookInto}
+use Rattle.block.specs.Search.{worthSearching, lookInto}
 use Rattle.sizes.specs.Limits.{isGranularity, granularityInForce, isPowerBelow, isBaseSize, baseSizeInForce}
 use Rattle.sizes.specs.Pools.{poolOf}
 use Rattle.sizes.specs.Sizes.{rounded, idealSize}
@@ -38,7 +38,7 @@ endOf s u t (c ∷ cs) = endOf (step s u t c .state) (step s u t c .used) (step 
 
 calls : List Call
 calls =
-    create (record { size = 65536; g = 64; flags = 0; w = 256; arena = 4194304; length = 1048576 })
+    create (record { size = 65536; granularity = 64; flags = 0; w = 256; arena = 4194304; length = 1048576 })
     ∷ alloc 100
     ∷ alloc 64
     ∷ release 4194304
@@ -64,9 +64,9 @@ ran : answersOf zeroState (replicate 8192 0) (replicate 8192 0) calls
     ∷ Reset
     ∷ Refused InvalidArgument
     ∷ []
-unfolding answersOf calls createTurn isGranularity granularityInForce isPowerBelow isBaseSize baseSizeInForce digit bit put setBit filled freeFrom lowestFit longestRun lastEnd seek moved marked released looks lookInto poolOf rounded idealSize all sum clauses leastFrom latest listFrom searchFrom allocTurn queryTurn releaseTurn shrinkTurn clearBlocks kept resetTurn
+unfolding answersOf calls createTurn isGranularity granularityInForce isPowerBelow isBaseSize baseSizeInForce digit bit put setBit filled freeFrom lowestFit longestRun lastEnd seek moved marked released worthSearching lookInto poolOf rounded idealSize all sum clauses leastFrom latest listFrom searchFrom allocTurn queryTurn releaseTurn shrinkTurn clearBlocks kept resetTurn
 ran = refl
 
 ended : endOf zeroState (replicate 8192 0) (replicate 8192 0) calls ≡ 0 ∷ 1 ∷ 0 ∷ []
-unfolding endOf calls createTurn isGranularity granularityInForce isPowerBelow isBaseSize baseSizeInForce digit bit put setBit filled freeFrom lowestFit longestRun lastEnd seek moved marked released looks lookInto poolOf rounded idealSize all sum clauses leastFrom latest listFrom searchFrom allocTurn queryTurn releaseTurn shrinkTurn clearBlocks kept resetTurn
+unfolding endOf calls createTurn isGranularity granularityInForce isPowerBelow isBaseSize baseSizeInForce digit bit put setBit filled freeFrom lowestFit longestRun lastEnd seek moved marked released worthSearching lookInto poolOf rounded idealSize all sum clauses leastFrom latest listFrom searchFrom allocTurn queryTurn releaseTurn shrinkTurn clearBlocks kept resetTurn
 ended = refl

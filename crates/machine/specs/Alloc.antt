@@ -50,8 +50,8 @@ abbrev pub searchPool : State → List ℕ → ℕ → ℕ → Searched
 searchPool s u p n = searchFrom u p n 0 (s .count) s
 
 -- ---- Marking: n units from unit i on of block j
-abbrev pub markTurn : State → List ℕ → List ℕ → ℕ → ℕ → ℕ → Turn
-markTurn s u t j i n =
+abbrev pub allocMarked : State → List ℕ → List ℕ → ℕ → ℕ → ℕ → Turn
+allocMarked s u t j i n =
     turn (Granted (span (blockAt s j .base + bytesOf i (unitOf s (blockAt s j))) (bytesOf n (unitOf s (blockAt s j)))))
     (withLive
     (putPool (putBlock s j (markAllocated (s .w) (blockAt s j) i (i + n) u t .block)) (blockAt s j .pool)
@@ -61,35 +61,35 @@ markTurn s u t j i n =
 
 -- ---- New block
 -- at its place and slot: the slot is cleared, and the span is at unit 0
-abbrev pub makeTurn : State → List ℕ → List ℕ → ℕ → ℕ → ℕ → ℕ → ℕ → Turn
-makeTurn s u t p n size at slot =
-    markTurn (inserted s (fresh at size p slot (unitsOf size (poolAt s p .granularity)) n)) (clearSlot (s .w) slot u) (clearSlot (s .w) slot t) (s .count) 0 n
+abbrev pub allocMade : State → List ℕ → List ℕ → ℕ → ℕ → ℕ → ℕ → ℕ → Turn
+allocMade s u t p n size at slot =
+    allocMarked (inserted s (fresh at size p slot (unitsOf size (poolAt s p .granularity)) n)) (clearSlot (s .w) slot u) (clearSlot (s .w) slot t) (s .count) 0 n
 
 -- refusal 4 exactly if there is no place, no free slot, or its words exceed W
-abbrev pub placeTurn : State → List ℕ → List ℕ → ℕ → ℕ → ℕ → Place → Found → Turn
-placeTurn s u t p n size (Address at) (slotAt slot) =
-    pick (leb (unitsOf (unitsOf size (poolAt s p .granularity)) 32) (s .w)) (makeTurn s u t p n size at slot) (refuse NoMapping s u t)
-placeTurn s u t p n size (Address at) Nothing = refuse NoMapping s u t
-placeTurn s u t p n size noPlace slot = refuse NoMapping s u t
+abbrev pub allocPlaced : State → List ℕ → List ℕ → ℕ → ℕ → ℕ → Place → Found → Turn
+allocPlaced s u t p n size (Address at) (slotAt slot) =
+    pick (leb (unitsOf (unitsOf size (poolAt s p .granularity)) 32) (s .w)) (allocMade s u t p n size at slot) (refuse NoMapping s u t)
+allocPlaced s u t p n size (Address at) Nothing = refuse NoMapping s u t
+allocPlaced s u t p n size noPlace slot = refuse NoMapping s u t
 
 -- a block of size bytes
-abbrev pub newTurn : State → List ℕ → List ℕ → ℕ → ℕ → ℕ → Turn
-newTurn s u t p n size = placeTurn s u t p n size (lowestPlace s size) (lowestSlot s)
+abbrev pub allocNew : State → List ℕ → List ℕ → ℕ → ℕ → ℕ → Turn
+allocNew s u t p n size = allocPlaced s u t p n size (lowestPlace s size) (lowestSlot s)
 
 -- ---- the call
-abbrev pub searchedTurn : State → List ℕ → List ℕ → ℕ → ℕ → ℕ → Hit → Turn
-searchedTurn s u t p n size (At j i) = markTurn s u t j i n
-searchedTurn s u t p n size Nowhere = newTurn s u t p n (idealSize (newestSize s p) size)
+abbrev pub allocSearched : State → List ℕ → List ℕ → ℕ → ℕ → ℕ → Hit → Turn
+allocSearched s u t p n size (At j i) = allocMarked s u t j i n
+allocSearched s u t p n size Nowhere = allocNew s u t p n (idealSize (newestSize s p) size)
 
 -- size is rounded, and its pool chosen
-abbrev pub poolTurn : State → List ℕ → List ℕ → ℕ → ℕ → Turn
-poolTurn s u t size p =
-    searchedTurn (searchPool s u p (unitsOf size (poolAt s p .granularity)) .state) u t p (unitsOf size (poolAt s p .granularity)) size
+abbrev pub allocPool : State → List ℕ → List ℕ → ℕ → ℕ → Turn
+allocPool s u t size p =
+    allocSearched (searchPool s u p (unitsOf size (poolAt s p .granularity)) .state) u t p (unitsOf size (poolAt s p .granularity)) size
     (searchPool s u p (unitsOf size (poolAt s p .granularity)) .hit)
 
-abbrev pub sizeTurn : State → List ℕ → List ℕ → Rounded → Turn
-sizeTurn s u t (To size) = poolTurn s u t size (poolOf size (s .g) (s .pools))
-sizeTurn s u t (Refused k) = refuse (pick (eqb k 1) InvalidArgument TooLarge) s u t
+abbrev pub allocRounded : State → List ℕ → List ℕ → Rounded → Turn
+allocRounded s u t (To size) = allocPool s u t size (poolOf size (s .granularity) (s .poolcount))
+allocRounded s u t (Refused k) = refuse (pick (eqb k 1) InvalidArgument TooLarge) s u t
 
 unfoldable pub allocTurn : State → List ℕ → List ℕ → ℕ → Turn
-allocTurn s u t size = pick (badShape s (length u) (length t)) (refuse BadShape s u t) (sizeTurn s u t (rounded size (s .g)))
+allocTurn s u t size = pick (badShape s (length u) (length t)) (refuse BadShape s u t) (allocRounded s u t (rounded size (s .granularity)))

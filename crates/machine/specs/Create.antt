@@ -17,7 +17,7 @@ use Rattle.machine.specs.Turn.{Turn, turn, refuse}
 -- what creation is asked for; flags: bit 0 three pools, bit 1 immediate release, other bits ignored
 pub record Asked : Type 0 where
   pub size : ℕ
-  pub g : ℕ
+  pub granularity : ℕ
   pub flags : ℕ
   pub w : ℕ
   pub arena : ℕ
@@ -41,8 +41,8 @@ grantable a usedWords stopWords =
 abbrev pub freshState : Asked → ℕ → State
 freshState a slots = record {
   size = baseSizeInForce (a .size);
-  g = granularityInForce (a .g);
-  pools = poolsAsked (a .flags);
+  granularity = granularityInForce (a .granularity);
+  poolcount = poolsAsked (a .flags);
   immediate = immediateAsked (a .flags);
   w = a .w;
   slots = slots;
@@ -52,7 +52,7 @@ freshState a slots = record {
   count = 0;
   blocks = replicate 64 zeroBlock;
   order = replicate 64 0;
-  pool = replicate 3 (freshPool (granularityInForce (a .g)));
+  pools = replicate 3 (freshPool (granularityInForce (a .granularity)));
 }
 
 -- the first n words cleared, no later ones
@@ -61,7 +61,7 @@ cleared n ws = replicate n 0 ++ drop n ws
 
 abbrev pub granted : Asked → ℕ → List ℕ → List ℕ → Turn
 granted a slots u t =
-    turn (Created (baseSizeInForce (a .size)) (granularityInForce (a .g)) (poolsAsked (a .flags))) (freshState a slots) (cleared (slots * a .w) u)
+    turn (Created (baseSizeInForce (a .size)) (granularityInForce (a .granularity)) (poolsAsked (a .flags))) (freshState a slots) (cleared (slots * a .w) u)
     (cleared (slots * a .w) t)
 
 -- the call itself: refused, it hands back a record of zeros, with nothing written

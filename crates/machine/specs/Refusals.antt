@@ -3,7 +3,7 @@ use mathlib.Core.List.{List}
 use mathlib.Core.Path.{_≡_}
 use Prim.Native.Nat.{ℕ}
 use Rattle.sizes.specs.declared.Rounded.{Rounded}
-use Rattle.sizes.specs.declared.Rounded.the-variants.{To, Refused as tooBad}
+use Rattle.sizes.specs.declared.Rounded.the-variants.{To, Refused as unroundable}
 use Rattle.sizes.specs.Pools.{poolOf}
 use Rattle.sizes.specs.Sizes.{rounded}
 use Rattle.numbers.specs.Units.{unitsOf}
@@ -20,27 +20,27 @@ abbrev pub Is : State → List ℕ → List ℕ → Turn → Type 0
 Is s u t x = (x .state ≡ s) × (x .used ≡ u) × (x .stop ≡ t)
 
 -- a refusal changes nothing, but for refusal 4: the record is then the one that the search left
-abbrev pub Leaves : State → State → List ℕ → List ℕ → Turn → Answer → Type 0
-Leaves s searched u t x (Refused NoMapping) = Is searched u t x
-Leaves s searched u t x (Refused InvalidArgument) = Is s u t x
-Leaves s searched u t x (Refused TooLarge) = Is s u t x
-Leaves s searched u t x (Refused InvalidState) = Is s u t x
-Leaves s searched u t x (Refused BadShape) = Is s u t x
-Leaves s searched u t x (Refused Damaged) = Is s u t x
-Leaves s searched u t x (Created size g pools) = Unit {0}
-Leaves s searched u t x (Granted span) = Unit {0}
-Leaves s searched u t x (Released span) = Unit {0}
-Leaves s searched u t x (Shrunk span) = Unit {0}
-Leaves s searched u t x (Shown span) = Unit {0}
-Leaves s searched u t x Reset = Unit {0}
+abbrev pub LeftByRefusal : State → State → List ℕ → List ℕ → Turn → Answer → Type 0
+LeftByRefusal s searched u t x (Refused NoMapping) = Is searched u t x
+LeftByRefusal s searched u t x (Refused InvalidArgument) = Is s u t x
+LeftByRefusal s searched u t x (Refused TooLarge) = Is s u t x
+LeftByRefusal s searched u t x (Refused InvalidState) = Is s u t x
+LeftByRefusal s searched u t x (Refused BadShape) = Is s u t x
+LeftByRefusal s searched u t x (Refused Damaged) = Is s u t x
+LeftByRefusal s searched u t x (Created size g pools) = Unit {0}
+LeftByRefusal s searched u t x (Granted span) = Unit {0}
+LeftByRefusal s searched u t x (Released span) = Unit {0}
+LeftByRefusal s searched u t x (Shrunk span) = Unit {0}
+LeftByRefusal s searched u t x (Shown span) = Unit {0}
+LeftByRefusal s searched u t x Reset = Unit {0}
 
 -- the record with the blocks that were looked into for a size tightened
 abbrev pub searchedFor : State → List ℕ → Rounded → State
-searchedFor s u (To size) = searchPool s u (poolOf size (s .g) (s .pools)) (unitsOf size (poolAt s (poolOf size (s .g) (s .pools)) .granularity)) .state
-searchedFor s u (tooBad k) = s
+searchedFor s u (To size) = searchPool s u (poolOf size (s .granularity) (s .poolcount)) (unitsOf size (poolAt s (poolOf size (s .granularity) (s .poolcount)) .granularity)) .state
+searchedFor s u (unroundable k) = s
 
 abbrev pub searchedBy : State → List ℕ → Call → State
-searchedBy s u (alloc size) = searchedFor s u (rounded size (s .g))
+searchedBy s u (alloc size) = searchedFor s u (rounded size (s .granularity))
 searchedBy s u (create a) = s
 searchedBy s u (release a) = s
 searchedBy s u (shrink a size) = s

@@ -37,26 +37,26 @@ settle answer s u t j =
     (turn answer (putPool s (blockAt s j .pool) (withCounts (poolAt s (blockAt s j .pool)) 1 (poolAt s (blockAt s j .pool) .used))) u t))
 
 -- the span of block j from unit i up to e goes
-abbrev pub freeTurn : State → List ℕ → List ℕ → ℕ → ℕ → ℕ → ℕ → Turn
-freeTurn s u t a j i e =
+abbrev pub releaseUnits : State → List ℕ → List ℕ → ℕ → ℕ → ℕ → ℕ → Turn
+releaseUnits s u t a j i e =
     settle (Released (span a (bytesOf (e - i) (unitOf s (blockAt s j)))))
     (withLive (lessUsed s j (markReleased (s .w) (blockAt s j) i e u t .block) (e - i)) (s .live - 1))
     (markReleased (s .w) (blockAt s j) i e u t .used) (markReleased (s .w) (blockAt s j) i e u t .stop) j
 
 -- also damaged: a span longer than the block's used count, and live count 0
-abbrev pub releasedTurn : State → List ℕ → List ℕ → ℕ → ℕ → Held → Turn
-releasedTurn s u t a j NoSpan = refuse InvalidArgument s u t
-releasedTurn s u t a j NoStop = refuse Damaged s u t
-releasedTurn s u t a j (Units i e) =
-    pick (ltb (blockAt s j .used) (e - i) || eqb (s .live) 0) (refuse Damaged s u t) (freeTurn s u t a j i e)
+abbrev pub releaseHeld : State → List ℕ → List ℕ → ℕ → ℕ → Held → Turn
+releaseHeld s u t a j NoSpan = refuse InvalidArgument s u t
+releaseHeld s u t a j NoStop = refuse Damaged s u t
+releaseHeld s u t a j (Units i e) =
+    pick (ltb (blockAt s j .used) (e - i) || eqb (s .live) 0) (refuse Damaged s u t) (releaseUnits s u t a j i e)
 
 -- where no block holds the address the call ends there
-abbrev pub givenBackTurn : State → List ℕ → List ℕ → ℕ → Found → Turn
-givenBackTurn s u t a Nothing = refuse InvalidState s u t
-givenBackTurn s u t a (At j) = releasedTurn s u t a j (heldIn s u t a j)
+abbrev pub releaseFound : State → List ℕ → List ℕ → ℕ → Found → Turn
+releaseFound s u t a Nothing = refuse InvalidState s u t
+releaseFound s u t a (At j) = releaseHeld s u t a j (heldIn s u t a j)
 
 -- release of address 0
 unfoldable pub releaseTurn : State → List ℕ → List ℕ → ℕ → Turn
 releaseTurn s u t a =
     pick (badShape s (length u) (length t)) (refuse BadShape s u t)
-    (pick (eqb a 0) (refuse InvalidArgument s u t) (givenBackTurn s u t a (lookup s a)))
+    (pick (eqb a 0) (refuse InvalidArgument s u t) (releaseFound s u t a (lookup s a)))

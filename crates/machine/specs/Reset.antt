@@ -18,7 +18,7 @@ use Rattle.machine.specs.Turn.{Turn, turn, refuse, putPool, withLive, wi
 
 -- all blocks go
 abbrev pub emptyTable : State → State
-emptyTable s = withLive (withTable s 0 (replicate 64 zeroBlock) (replicate 64 0) (replicate 3 (freshPool (s .g)))) 0
+emptyTable s = withLive (withTable s 0 (replicate 64 zeroBlock) (replicate 64 0) (replicate 3 (freshPool (s .granularity)))) 0
 
 -- the slots of the first n blocks cleared
 unfoldable pub clearBlocks : State → ℕ → List ℕ → List ℕ

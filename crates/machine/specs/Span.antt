@@ -44,15 +44,15 @@ abbrev pub heldIn : State → List ℕ → List ℕ → ℕ → ℕ → Held
 heldIn s u t a j = heldOf (s .w) (blockAt s j) (unitOf s (blockAt s j)) u t a
 
 -- ---- the call query
-abbrev pub shownTurn : State → List ℕ → List ℕ → ℕ → ℕ → Held → Turn
-shownTurn s u t a j NoSpan = refuse InvalidArgument s u t
-shownTurn s u t a j NoStop = refuse Damaged s u t
-shownTurn s u t a j (Units i e) = turn (Shown (span a (bytesOf (e - i) (unitOf s (blockAt s j))))) s u t
+abbrev pub queryHeld : State → List ℕ → List ℕ → ℕ → ℕ → Held → Turn
+queryHeld s u t a j NoSpan = refuse InvalidArgument s u t
+queryHeld s u t a j NoStop = refuse Damaged s u t
+queryHeld s u t a j (Units i e) = turn (Shown (span a (bytesOf (e - i) (unitOf s (blockAt s j))))) s u t
 
 -- where no block holds the address the call ends there
-abbrev pub queriedTurn : State → List ℕ → List ℕ → ℕ → Found → Turn
-queriedTurn s u t a Nothing = refuse InvalidArgument s u t
-queriedTurn s u t a (At j) = shownTurn s u t a j (heldIn s u t a j)
+abbrev pub queryFound : State → List ℕ → List ℕ → ℕ → Found → Turn
+queryFound s u t a Nothing = refuse InvalidArgument s u t
+queryFound s u t a (At j) = queryHeld s u t a j (heldIn s u t a j)
 
 unfoldable pub queryTurn : State → List ℕ → List ℕ → ℕ → Turn
-queryTurn s u t a = pick (badShape s (length u) (length t)) (refuse BadShape s u t) (queriedTurn s u t a (lookup s a))
+queryTurn s u t a = pick (badShape s (length u) (length t)) (refuse BadShape s u t) (queryFound s u t a (lookup s a))

@@ -42,13 +42,13 @@ span address size = record { address = address; size = size }
 
 -- ---- the record with one thing changed
 abbrev pub putBlock : State → ℕ → Block → State
-putBlock s i b = withTable s (s .count) (set (s .blocks) i b) (s .order) (s .pool)
+putBlock s i b = withTable s (s .count) (set (s .blocks) i b) (s .order) (s .pools)
 
 abbrev pub putPool : State → ℕ → Pool → State
-putPool s p q = withTable s (s .count) (s .blocks) (s .order) (set (s .pool) p q)
+putPool s p q = withTable s (s .count) (s .blocks) (s .order) (set (s .pools) p q)
 
 abbrev pub withLive : State → ℕ → State
-withLive s live = withRest s live (s .count) (s .blocks) (s .order) (s .pool)
+withLive s live = withRest s live (s .count) (s .blocks) (s .order) (s .pools)
 
 -- a pool with other counts of empty blocks and used units
 abbrev pub withCounts : Pool → ℕ → ℕ → Pool

@@ -110,12 +110,12 @@ fn answer(r: sizes::Rounded) {
 }
 
 // `round SIZE G to ROUNDED`, or `round SIZE G refused N`
-fn round(size: u64, g: u64) {
-    if 0 < g {
+fn round(size: u64, granularity: u64) {
+    if 0 < granularity {
         io::write_all(1, b"round");
         number(size);
-        number(g);
-        answer(sizes::round_size(size, g));
+        number(granularity);
+        answer(sizes::round_size(size, granularity));
         line_end();
     }
 }

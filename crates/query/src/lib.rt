@@ -22,6 +22,6 @@ pub fn query(s: State, used: &[u32], stop: &[u32], address: u64) -> Answer
     match held {
         Held::NoSpan => Answer::Refused(Refusal::InvalidArgument),
         Held::NoStop => Answer::Refused(Refusal::Damaged),
-        Held::Units(i, e) => Answer::Shown(spans::span_at(s, j, address, e - i)),
+        Held::Units(from, to) => Answer::Shown(spans::span_at(s, j, address, to - from)),
     }
 }

@@ -31,7 +31,7 @@ Holds Unknown size = ⊥
 
 -- block size, g, flags and W of four bytes each, arena base and length of eight
 abbrev pub askedOf : List ℕ → Asked
-askedOf bs = record { size = u32At bs 4; g = u32At bs 8; flags = u32At bs 12; w = u32At bs 16; arena = u64At bs 20; length = u64At bs 28 }
+askedOf bs = record { size = u32At bs 4; granularity = u32At bs 8; flags = u32At bs 12; w = u32At bs 16; arena = u64At bs 20; length = u64At bs 28 }
 
 -- the call of a whole record of a known kind
 unfoldable pub callOf : List ℕ → ℕ → Call

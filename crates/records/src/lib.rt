@@ -8,7 +8,7 @@ ghost use Rattle.records.specs.Records.{payloadOf, Holds, askedOf, callO
 // What a creation asks for.
 pub struct Asked {
     pub size: u32,
-    pub g: u32,
+    pub granularity: u32,
     pub flags: u32,
     pub w: u32,
     pub arena: u64,
@@ -92,14 +92,14 @@ fn asked_of(bytes: &[u8]) -> Asked
     ensures { λ r. ⌜ r ≡ askedOf (now (bytes .entry)) ⌝ }
 {
     let size = u32_at(bytes, 4);
-    let g = u32_at(bytes, 8);
+    let granularity = u32_at(bytes, 8);
     let flags = u32_at(bytes, 12);
     let w = u32_at(bytes, 16);
     let arena = u64_at(bytes, 20);
     let length = u64_at(bytes, 28);
     Asked {
         size,
-        g,
+        granularity,
         flags,
         w,
         arena,

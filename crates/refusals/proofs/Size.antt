@@ -13,7 +13,7 @@ use Rattle.numbers.specs.Align.{alignUp}
 use Rattle.numbers.specs.Units.{unitsOf}
 use Rattle.numbers.proofs.Units.{units-hold}
 use Rattle.numbers.proofs.Split.{by-eq}
-use Rattle.sizes.specs.declared.Rounded.the-variants.{To, Refused as tooBad}
+use Rattle.sizes.specs.declared.Rounded.the-variants.{To, Refused as unroundable}
 use Rattle.sizes.proofs.Pools.{pool-below}
 use Rattle.sizes.specs.Sizes.{accepted, rounded, idealSize}
 use Rattle.state.specs.declared.State.{State}
@@ -34,7 +34,7 @@ use Rattle.state.proofs.Find.{Least, least-of, least-only}
 use Rattle.shape.specs.Shaped.{Shaped}
 use Rattle.shape.proofs.Shaped.{shaped-is}
 use Rattle.machine.specs.Turn.{Turn, refuse}
-use Rattle.machine.specs.Alloc.{searchPool, makeTurn, placeTurn, newTurn, searchedTurn, poolTurn, sizeTurn, allocTurn}
+use Rattle.machine.specs.Alloc.{searchPool, allocMade, allocPlaced, allocNew, allocSearched, allocPool, allocRounded, allocTurn}
 use Rattle.machine.specs.Machine.{alloc}
 use Rattle.shape_facts.proofs.Facts.{unit-g}
 use Rattle.shape_facts.proofs.Search.{Left, search-left}
@@ -76,7 +76,7 @@ no-slot s none = sym (least-only (s .slots) (slotFree s) Nothing (λ k l h. none
 module _ (s : State) (u t : List ℕ) (size : ℕ) where
   -- the rounded size, its pool and units, the block to be made, and the state as the search leaves it
   abbrev z : ℕ
-  z = alignUp size (s .g)
+  z = alignUp size (s .granularity)
 
   abbrev p : ℕ
   p = poolFor s u t z
@@ -108,7 +108,7 @@ module _ (s : State) (u t : List ℕ) (size : ℕ) where
     unit-pos =
         omega (
           arith,
-          unit-g s (length u) (length t) shaped p (omega (arith, pool-below z (s .g) (s .pools) (shaped .head .pools-listed), shaped .head .pools-high)),
+          unit-g s (length u) (length t) shaped p (omega (arith, pool-below z (s .granularity) (s .poolcount) (shaped .head .pools-listed), shaped .head .pools-high)),
           shaped .head .g-low,
         )
 
@@ -119,10 +119,10 @@ module _ (s : State) (u t : List ℕ) (size : ℕ) where
     left = search-left u (length t) p n n-pos s shaped len
 
     -- the search moves nothing, so the new block is that of the table before it
-    new-same : newTurn r u t p n (idealSize (newestSize r p) z) ≡ placeTurn r u t p n b (lowestPlace s b) (lowestSlot s)
+    new-same : allocNew r u t p n (idealSize (newestSize r p) z) ≡ allocPlaced r u t p n b (lowestPlace s b) (lowestSlot s)
     new-same =
-        ap (λ (m : ℕ). newTurn r u t p n (idealSize m z)) (ap (λ (x : State). newestSize x p) only ∙ newest-alike s (r .blocks) (left .alike) p)
-        ∙ ap₂ (λ (x : Place) (f : Found). placeTurn r u t p n b x f)
+        ap (λ (m : ℕ). allocNew r u t p n (idealSize m z)) (ap (λ (x : State). newestSize x p) only ∙ newest-alike s (r .blocks) (left .alike) p)
+        ∙ ap₂ (λ (x : Place) (f : Found). allocPlaced r u t p n b x f)
         (ap (λ (x : State). lowestPlace x b) only ∙ place-alike s (r .blocks) (left .alike) b)
         (ap lowestSlot only ∙ slot-alike s (r .blocks) (left .alike))
 
@@ -131,7 +131,7 @@ module _ (s : State) (u t : List ℕ) (size : ℕ) where
 
     module _ (small : z ≤ 2147483647) where
       past-told : NoneFound s u t z → (at slot : ℕ) (c : Bool) → leb (unitsOf (unitsOf b (poolAt r p .granularity)) 32) (r .w) ≡ c
-          → Told s u t (alloc size) (pick c (makeTurn r u t p n b at slot) (refuse NoMapping r u t) .answer)
+          → Told s u t (alloc size) (pick c (allocMade r u t p n b at slot) (refuse NoMapping r u t) .answer)
       past-told none at slot true e = tt
       past-told none at slot false e = (
         good,
@@ -143,12 +143,12 @@ module _ (s : State) (u t : List ℕ) (size : ℕ) where
         inr (inr (subst (λ (k : ℕ). k < unitsOf (unitsOf b (poolAt s p .granularity)) 32) w-same (subst (λ (k : ℕ). r .w < k) words-same (leb-false (unitsOf (unitsOf b (poolAt r p .granularity)) 32) (r .w) e)))),
       )
 
-      place-told : NoneFound s u t z → (x : Place) → Spaced s b x → (f : Found) → Slotted s f → Told s u t (alloc size) (placeTurn r u t p n b x f .answer)
+      place-told : NoneFound s u t z → (x : Place) → Spaced s b x → (f : Found) → Slotted s f → Told s u t (alloc size) (allocPlaced r u t p n b x f .answer)
       place-told none (Address at) q (slotAt slot) h = past-told none at slot (leb (unitsOf (unitsOf b (poolAt r p .granularity)) 32) (r .w)) refl
       place-told none (Address at) q Nothing h = (good, z, refl, pos, small, none, inr (inl h))
       place-told none noPlace q f h = (good, z, refl, pos, small, none, inl q)
 
-      searched-told : (h : Hit) → Hits u p n s 0 (s .count) h → Told s u t (alloc size) (searchedTurn r u t p n z h .answer)
+      searched-told : (h : Hit) → Hits u p n s 0 (s .count) h → Told s u t (alloc size) (allocSearched r u t p n z h .answer)
       searched-told (At j i) q = tt
       searched-told Nowhere q =
           subst (λ (x : Turn). Told s u t (alloc size) (x .answer)) (sym new-same)
@@ -159,31 +159,31 @@ module _ (s : State) (u t : List ℕ) (size : ℕ) where
     hit-none none (At j i) q = absurd (none j i (q .1) (q .2) (q .3))
     hit-none none Nowhere q = refl
 
-    past-refused : PastSlot s u t z → (x : Place) (f : Found) → placeTurn r u t p n b x f .answer ≡ Refused NoMapping
+    past-refused : PastSlot s u t z → (x : Place) (f : Found) → allocPlaced r u t p n b x f .answer ≡ Refused NoMapping
     past-refused l (Address at) (slotAt slot) =
-        ap (λ (c : Bool). pick c (makeTurn r u t p n b at slot) (refuse NoMapping r u t) .answer)
+        ap (λ (c : Bool). pick c (allocMade r u t p n b at slot) (refuse NoMapping r u t) .answer)
         (lt-leb (unitsOf (unitsOf b (poolAt r p .granularity)) 32) (r .w)
         (subst (λ (k : ℕ). r .w < k) (sym words-same) (subst (λ (k : ℕ). k < unitsOf (unitsOf b (poolAt s p .granularity)) 32) (sym w-same) l)))
     past-refused l (Address at) Nothing = refl
     past-refused l noPlace f = refl
 
-    slot-refused : (x : Place) → placeTurn r u t p n b x Nothing .answer ≡ Refused NoMapping
+    slot-refused : (x : Place) → allocPlaced r u t p n b x Nothing .answer ≡ Refused NoMapping
     slot-refused (Address at) = refl
     slot-refused noPlace = refl
 
-    placed-refused : NoRoom s u t b ⊎ (NoSlot s u t ⊎ PastSlot s u t z) → placeTurn r u t p n b (lowestPlace s b) (lowestSlot s) .answer ≡ Refused NoMapping
-    placed-refused (inl none) = ap (λ (x : Place). placeTurn r u t p n b x (lowestSlot s) .answer) (no-place s b none)
-    placed-refused (inr (inl none)) = ap (λ (f : Found). placeTurn r u t p n b (lowestPlace s b) f .answer) (no-slot s none) ∙ slot-refused (lowestPlace s b)
+    placed-refused : NoRoom s u t b ⊎ (NoSlot s u t ⊎ PastSlot s u t z) → allocPlaced r u t p n b (lowestPlace s b) (lowestSlot s) .answer ≡ Refused NoMapping
+    placed-refused (inl none) = ap (λ (x : Place). allocPlaced r u t p n b x (lowestSlot s) .answer) (no-place s b none)
+    placed-refused (inr (inl none)) = ap (λ (f : Found). allocPlaced r u t p n b (lowestPlace s b) f .answer) (no-slot s none) ∙ slot-refused (lowestPlace s b)
     placed-refused (inr (inr l)) = past-refused l (lowestPlace s b) (lowestSlot s)
 
-    pool-refused : NoneFound s u t z → NoRoom s u t b ⊎ (NoSlot s u t ⊎ PastSlot s u t z) → poolTurn s u t z p .answer ≡ Refused NoMapping
+    pool-refused : NoneFound s u t z → NoRoom s u t b ⊎ (NoSlot s u t ⊎ PastSlot s u t z) → allocPool s u t z p .answer ≡ Refused NoMapping
     pool-refused none q =
-        ap (λ (h : Hit). searchedTurn r u t p n z h .answer) (hit-none none (searchPool s u p n .hit) (search-hits u p n s))
+        ap (λ (h : Hit). allocSearched r u t p n z h .answer) (hit-none none (searchPool s u p n .hit) (search-hits u p n s))
         ∙ ap (λ (x : Turn). x .answer) new-same ∙ placed-refused q
 
   -- ---- the size
   sized-told : Good s u t → length (s .blocks) ≡ 64 → (none : Bool) → eqb z 0 ≡ none → (much : Bool) → ltb 2147483647 z ≡ much
-      → Told s u t (alloc size) (sizeTurn s u t (pick none (tooBad 1) (pick much (tooBad 2) (To z))) .answer)
+      → Told s u t (alloc size) (allocRounded s u t (pick none (unroundable 1) (pick much (unroundable 2) (To z))) .answer)
   sized-told good len true e much d = (good, eqb-true z 0 e)
   sized-told good len false e true d = (good, ltb-true 2147483647 z d)
   sized-told good len false e false d =
@@ -192,19 +192,19 @@ module _ (s : State) (u t : List ℕ) (size : ℕ) where
   pub alloc-told : length (s .blocks) ≡ 64 → Told s u t (alloc size) (allocTurn s u t size .answer)
   unfolding allocTurn rounded
   alloc-told len =
-      bad-first s u t (alloc size) (λ e. e) (sizeTurn s u t (accepted z)) (λ good. sized-told good len (eqb z 0) refl (ltb 2147483647 z) refl)
+      bad-first s u t (alloc size) (λ e. e) (allocRounded s u t (accepted z)) (λ good. sized-told good len (eqb z 0) refl (ltb 2147483647 z) refl)
       (goodShape s (length u) (length t)) refl
 
-  alloc-good : Good s u t → allocTurn s u t size ≡ sizeTurn s u t (accepted z)
+  alloc-good : Good s u t → allocTurn s u t size ≡ allocRounded s u t (accepted z)
   unfolding allocTurn rounded
-  alloc-good good = good-turn s u t (sizeTurn s u t (accepted z)) good
+  alloc-good good = good-turn s u t (allocRounded s u t (accepted z)) good
 
   alloc-bad : Bad s u t → allocTurn s u t size .answer ≡ Refused BadShape
   unfolding allocTurn
-  alloc-bad e = bad-answer s u t (sizeTurn s u t (rounded size (s .g))) e
+  alloc-bad e = bad-answer s u t (allocRounded s u t (rounded size (s .granularity))) e
 
   abbrev sizeOf : Bool → Bool → Answer
-  sizeOf none much = sizeTurn s u t (pick none (tooBad 1) (pick much (tooBad 2) (To z))) .answer
+  sizeOf none much = allocRounded s u t (pick none (unroundable 1) (pick much (unroundable 2) (To z))) .answer
 
   pub alloc-when : length (s .blocks) ≡ 64 → (why : Refusal) → When s u t why (alloc size) → allocTurn s u t size .answer ≡ Refused why
   alloc-when len InvalidArgument q =

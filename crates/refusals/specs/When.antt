@@ -71,7 +71,7 @@ module _ (s : State) (u t : List ℕ) where
 
   -- ---- allocation: the rounded size z, its pool and its units
   abbrev pub poolFor : ℕ → ℕ
-  poolFor z = poolOf z (s .g) (s .pools)
+  poolFor z = poolOf z (s .granularity) (s .poolcount)
 
   abbrev pub unitsFor : ℕ → ℕ
   unitsFor z = unitsOf z (poolAt s (poolFor z) .granularity)
@@ -98,14 +98,14 @@ module _ (s : State) (u t : List ℕ) where
   abbrev pub When : Refusal → Call → Type 0
   -- 1
   When InvalidArgument (create a) = grantable a (length u) (length t) ≡ false
-  When InvalidArgument (alloc size) = Good × (alignUp size (s .g) ≡ 0)
+  When InvalidArgument (alloc size) = Good × (alignUp size (s .granularity) ≡ 0)
   When InvalidArgument (release a) = Good × ((a ≡ 0) ⊎ NoStart a)
   When InvalidArgument (shrink a size) = Good × ((a ≡ 0) ⊎ (((0 < size) × InNone a) ⊎ NoStart a))
   When InvalidArgument (query a) = Good × (InNone a ⊎ NoStart a)
   When InvalidArgument softReset = ⊥
   When InvalidArgument hardReset = ⊥
   -- 2
-  When TooLarge (alloc size) = Good × (2147483647 < alignUp size (s .g))
+  When TooLarge (alloc size) = Good × (2147483647 < alignUp size (s .granularity))
   When TooLarge (create a) = ⊥
   When TooLarge (release a) = ⊥
   When TooLarge (shrink a size) = ⊥
@@ -124,7 +124,7 @@ module _ (s : State) (u t : List ℕ) where
   When InvalidState hardReset = ⊥
   -- 4
   When NoMapping (alloc size) =
-      Good × (z : ℕ) × (z ≡ alignUp size (s .g)) × (0 < z) × (z ≤ 2147483647) × NoneFound z × (NoRoom (newSize z) ⊎ (NoSlot ⊎ PastSlot z))
+      Good × (z : ℕ) × (z ≡ alignUp size (s .granularity)) × (0 < z) × (z ≤ 2147483647) × NoneFound z × (NoRoom (newSize z) ⊎ (NoSlot ⊎ PastSlot z))
   When NoMapping (create a) = ⊥
   When NoMapping (release a) = ⊥
   When NoMapping (shrink a size) = ⊥

@@ -9,11 +9,11 @@ use Rattle.state.specs.declared.Held.the-variants.{Units}
 use Rattle.state.specs.declared.Refusal.the-variants.{Damaged}
 use Rattle.state.specs.Table.{blockAt}
 use Rattle.machine.specs.Turn.{refuse}
-use Rattle.machine.specs.Release.{freeTurn, releasedTurn}
+use Rattle.machine.specs.Release.{releaseUnits, releaseHeld}
 
 module _ (s : State) (u t : List ℕ) (a j i e : ℕ) where
-  pub released-damaged : ltb (blockAt s j .used) (e - i) || eqb (s .live) 0 ≡ true → refuse Damaged s u t ≡ releasedTurn s u t a j (Units i e)
+  pub released-damaged : ltb (blockAt s j .used) (e - i) || eqb (s .live) 0 ≡ true → refuse Damaged s u t ≡ releaseHeld s u t a j (Units i e)
   released-damaged z = rw z
 
-  pub released-free : ltb (blockAt s j .used) (e - i) || eqb (s .live) 0 ≡ false → freeTurn s u t a j i e ≡ releasedTurn s u t a j (Units i e)
+  pub released-free : ltb (blockAt s j .used) (e - i) || eqb (s .live) 0 ≡ false → releaseUnits s u t a j i e ≡ releaseHeld s u t a j (Units i e)
   released-free z = rw z

@@ -15,44 +15,44 @@ ghost use Rattle.state.specs.declared.Held.the-variants.{Units};
 ghost use Rattle.state.specs.Table.{blockAt};
 ghost use Rattle.shape.specs.Shaped.{Shaped};
 ghost use Rattle.machine.specs.Turn.{turn, withLive};
-ghost use Rattle.machine.specs.Release.{lessUsed, settle, releasedTurn, releaseTurn};
+ghost use Rattle.machine.specs.Release.{lessUsed, settle, releaseHeld, releaseTurn};
 
-// The span of block `j` from unit `i` up to `e` goes.
-fn free(s: State, used: &mut [u32], stop: &mut [u32], j: usize, i: u32, e: u32) -> State
-    requires { ⌜ Shaped s (length (now used)) (length (now stop)) × (j < s .count) × SpanIn (blockAt s j) i e ⌝ }
-    requires { ⌜ (e - i ≤ blockAt s j .used) × (0 < s .live) ⌝ }
+// The span of block `j` from unit `from` up to `to` goes.
+fn free_units(s: State, used: &mut [u32], stop: &mut [u32], j: usize, from: u32, to: u32) -> State
+    requires { ⌜ Shaped s (length (now used)) (length (now stop)) × (j < s .count) × SpanIn (blockAt s j) from to ⌝ }
+    requires { ⌜ (to - from ≤ blockAt s j .used) × (0 < s .live) ⌝ }
     ensures { λ r. ⌜ ((a : Answer) → turn a r (now (used .exit)) (now (stop .exit))
-        ≡ settle a (withLive (lessUsed s j (markReleased (s .w) (blockAt s j) i e (now (used .entry)) (now (stop .entry)) .block) (e - i)) (s .live - 1))
-        (markReleased (s .w) (blockAt s j) i e (now (used .entry)) (now (stop .entry)) .used)
-        (markReleased (s .w) (blockAt s j) i e (now (used .entry)) (now (stop .entry)) .stop) j) ⌝ }
+        ≡ settle a (withLive (lessUsed s j (markReleased (s .w) (blockAt s j) from to (now (used .entry)) (now (stop .entry)) .block) (to - from)) (s .live - 1))
+        (markReleased (s .w) (blockAt s j) from to (now (used .entry)) (now (stop .entry)) .used)
+        (markReleased (s .w) (blockAt s j) from to (now (used .entry)) (now (stop .entry)) .stop) j) ⌝ }
 {
     let b = state::block_at(s, j);
-    let less = block::mark::mark_released_area(b, used, stop, s.w, i, e);
-    let mut r = release_settle::less_used(s, j, less, e - i);
+    let less = block::mark::mark_released_area(b, used, stop, s.w, from, to);
+    let mut r = release_settle::less_used(s, j, less, to - from);
     r.live = s.live - 1;
     release_settle::settle(r, used, stop, j)
 }
 
 // The same, if the counts allow it: a span longer than its block's used count, and one that is not counted, show damage.
-fn give_back(
+fn release_span(
     s: State,
     used: &mut [u32],
     stop: &mut [u32],
     address: u64,
     j: usize,
-    i: u32,
-    e: u32,
+    from: u32,
+    to: u32,
 ) -> Outcome
-    requires { ⌜ Shaped s (length (now used)) (length (now stop)) × (j < s .count) × SpanIn (blockAt s j) i e ⌝ }
+    requires { ⌜ Shaped s (length (now used)) (length (now stop)) × (j < s .count) × SpanIn (blockAt s j) from to ⌝ }
     ensures { λ r. ⌜ turn (r .answer) (r .state) (now (used .exit)) (now (stop .exit))
-        ≡ releasedTurn s (now (used .entry)) (now (stop .entry)) address j (Units i e) ⌝ }
+        ≡ releaseHeld s (now (used .entry)) (now (stop .entry)) address j (Units from to) ⌝ }
 {
     let b = state::block_at(s, j);
-    if b.used < e - i || s.live == 0 {
+    if b.used < to - from || s.live == 0 {
         return state::refused(s, Refusal::Damaged);
     }
-    let span = spans::span_at(s, j, address, e - i);
-    let state = free(s, used, stop, j, i, e);
+    let span = spans::span_at(s, j, address, to - from);
+    let state = free_units(s, used, stop, j, from, to);
     let answer = Answer::Released(span);
     Outcome { answer, state }
 }
@@ -79,8 +79,8 @@ pub fn release(s: State, used: &mut [u32], stop: &mut [u32], address: u64) -> Ou
         Held::NoStop => {
             return state::refused(s, Refusal::Damaged);
         }
-        Held::Units(i, e) => {
-            return give_back(s, used, stop, address, j, i, e);
+        Held::Units(from, to) => {
+            return release_span(s, used, stop, address, j, from, to);
         }
     }
 }

@@ -17,7 +17,7 @@ fn put_pool(s: State, p: usize, pool: Pool) -> State
     ensures { λ r. ⌜ r ≡ putPool s p pool ⌝ }
 {
     let mut r = s;
-    r.pool[p] = pool;
+    r.pools[p] = pool;
     r
 }
 

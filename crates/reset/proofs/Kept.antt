@@ -20,7 +20,7 @@ use Rattle.state.specs.Table.{blockAt, ageAt, poolAt, all}
 use Rattle.state.specs.Change.{movedUp, placeOf, listFrom, withBlocks, inserted}
 use Rattle.state.proofs.Tests.{and-left, and-true, and-fails-right, all-more}
 use Rattle.state.proofs.Lists.{length-listFrom, getD-listFrom, getD-replicate}
-use Rattle.table.specs.Ready.{Enters}
+use Rattle.table.specs.Changeable.{Insertable}
 use Rattle.table.proofs.Shift.{moved-below, moved-here, moved-above, or-else-le}
 use Rattle.machine.specs.Turn.{withCounts}
 use Rattle.machine.specs.Reset.{emptyTable, oldest, keep, kept}
@@ -81,8 +81,8 @@ other-pool : (r : State) (b : Block) (p : ℕ) → (p ≡ b .pool → ⊥) → p
 other-pool r b p ne =
     let first = withBlocks (poolAt r (b .pool)) (poolAt r (b .pool) .blocks + 1) (poolAt r (b .pool) .area + b .area) in
     let then = poolAt (inserted r (emptied b)) (b .pool) in
-    getD-set-other (set (r .pool) (b .pool) first) (b .pool) p (withCounts then 1 (then .used)) (freshPool 0) ne
-    ∙ getD-set-other (r .pool) (b .pool) p first (freshPool 0) ne
+    getD-set-other (set (r .pools) (b .pool) first) (b .pool) p (withCounts then 1 (then .used)) (freshPool 0) ne
+    ∙ getD-set-other (r .pools) (b .pool) p first (freshPool 0) ne
 
 -- ---- the walk
 -- none of the first n blocks is in pool p
@@ -95,7 +95,7 @@ pub record Keeping (s : State) (i : ℕ) (r : State) (seen : List Bool) : Type 0
   pub size : length seen ≡ 3
   pub seen-is : (p : ℕ) → p < 3 → getD seen p false ≡ not (unseen s i p)
   pub sparse : Sparse r i
-  pub fresh : (p : ℕ) → p < 3 → unseen s i p ≡ true → poolAt r p ≡ freshPool (s .g)
+  pub fresh : (p : ℕ) → p < 3 → unseen s i p ≡ true → poolAt r p ≡ freshPool (s .granularity)
 
 pub keeping-start : (s : State) (r : State) → r ≡ emptyTable s → Keeping s 0 r (replicate 3 false)
 unfolding all
@@ -105,7 +105,7 @@ keeping-start s r e = subst (λ (x : State). Keeping s 0 x (replicate 3 false)) 
   size = refl;
   seen-is = λ p h. getD-replicate 3 false p;
   sparse = record { few = omega arith; age = λ k h. absurd (omega arith); rest = λ k h. getD-replicate 64 0 k };
-  fresh = λ p h z. fresh-at (s .g) p h;
+  fresh = λ p h z. fresh-at (s .granularity) p h;
 })
   where
     fresh-at : (g p : ℕ) → p < 3 → getD (replicate 3 (freshPool g)) p (freshPool 0) ≡ freshPool g
@@ -122,7 +122,7 @@ module _ (s : State) (i : ℕ) (r : State) (seen : List Bool) (f : Keepable s) (
   not-oldest : getD seen (blockAt s i .pool) false ≡ true → oldest s i ≡ false
   not-oldest e = not-true (oldest s i) (sym (q .seen-is (blockAt s i .pool) pool-low) ∙ e)
 
-  pub keeping-enters : getD seen (blockAt s i .pool) false ≡ false → Enters r (emptied (blockAt s i))
+  pub keeping-enters : getD seen (blockAt s i .pool) false ≡ false → Insertable r (emptied (blockAt s i))
   keeping-enters e =
       let p = q .fresh (blockAt s i .pool) pool-low (is-oldest e) in
       record {

@@ -5,7 +5,7 @@ use state::State;
 ghost use mathlib.Core.Path.{_≡_};
 ghost use Rattle.numbers.specs.Pick.{pick};
 ghost use Rattle.block.specs.Marking.{emptied};
-ghost use Rattle.table.specs.Ready.{Enters};
+ghost use Rattle.table.specs.Changeable.{Insertable};
 ghost use Rattle.machine.specs.Reset.{emptyTable, keep, kept};
 ghost use Rattle.reset.specs.Keepable.{Keepable};
 
@@ -15,8 +15,8 @@ pub fn empty_table(s: State) -> State
 {
     State {
         size: s.size,
-        g: s.g,
-        pools: s.pools,
+        granularity: s.granularity,
+        poolcount: s.poolcount,
         immediate: s.immediate,
         w: s.w,
         slots: s.slots,
@@ -26,7 +26,7 @@ pub fn empty_table(s: State) -> State
         count: 0,
         blocks: [state::zero_block(); 64],
         order: [0; 64],
-        pool: [Pool::new(s.g); 3],
+        pools: [Pool::new(s.granularity); 3],
     }
 }
 
@@ -45,15 +45,15 @@ fn emptied_record(b: Block) -> Block
 
 // A block enters a table as its pool's one empty block.
 fn keep_block(r: State, b: Block) -> State
-    requires { ⌜ Enters r (emptied b) ⌝ }
+    requires { ⌜ Insertable r (emptied b) ⌝ }
     ensures { λ x. ⌜ x ≡ keep r b ⌝ }
 {
     let fresh = emptied_record(b);
     let mut x = table::insert::insert_block(r, fresh);
     let p = b.pool;
-    let mut pool = x.pool[p];
+    let mut pool = x.pools[p];
     pool.empty = 1;
-    x.pool[p] = pool;
+    x.pools[p] = pool;
     x
 }
 
@@ -78,7 +78,7 @@ fn keep_oldest(s: State) -> State
 }
 
 // What a soft reset leaves of the table. Under immediate release no empty block stays.
-pub fn soften(s: State) -> State
+pub fn soft_reset_table(s: State) -> State
     requires { ⌜ Keepable s ⌝ }
     ensures { λ r. ⌜ r ≡ pick (s .immediate) (emptyTable s) (kept s (s .count)) ⌝ }
 {

@@ -48,7 +48,7 @@ pub fn soft_reset(s: State, used: &mut [u32], stop: &mut [u32]) -> Outcome
     }
     clear_blocks(s, used);
     clear_blocks(s, stop);
-    let state = keep::soften(s);
+    let state = keep::soft_reset_table(s);
     let answer = Answer::Reset;
     Outcome { answer, state }
 }

@@ -42,5 +42,5 @@ Stepped ws end hint p (Run start e w) = RunFrom ws end hint p start e w
 Stepped ws end hint p Done = UsedIn ws p end
 
 -- what a step answers, from whatever unit p the walk stands at
-abbrev pub Answer : List ℕ → ℕ → ℕ → ℕ → ℕ → Next → Type 0
-Answer ws at word end hint r = (p : ℕ) → Seen ws end p 0 at word → Stepped ws end hint p r
+abbrev pub StepAnswer : List ℕ → ℕ → ℕ → ℕ → ℕ → Next → Type 0
+StepAnswer ws at word end hint r = (p : ℕ) → Seen ws end p 0 at word → Stepped ws end hint p r

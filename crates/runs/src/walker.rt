@@ -1,6 +1,6 @@
 // The walk that keeps hold of the words it reads, as in the Rust. Its functions are thin over `next_range` of ranges: one takes it apart, one makes it.
 use crate::Next;
-ghost use Rattle.runs.specs.Walk.{Stands, Answer};
+ghost use Rattle.runs.specs.Walk.{Stands, StepAnswer};
 
 pub struct BitVectorRangeIterator<'a> {
     pub slice: &'a [u32],
@@ -9,9 +9,9 @@ pub struct BitVectorRangeIterator<'a> {
     pub end: usize,
 }
 
-pub fn held_next<'a>(r: BitVectorRangeIterator<'a>, hint: usize) -> Next
+pub fn next<'a>(r: BitVectorRangeIterator<'a>, hint: usize) -> Next
     requires { ⌜ Stands (now (r .slice)) (r .at) (r .end) ⌝ }
-    ensures { λ s. ⌜ Answer (now (r .entry .slice)) (r .entry .at) (r .entry .word) (r .entry .end) hint s ⌝ }
+    ensures { λ s. ⌜ StepAnswer (now (r .entry .slice)) (r .entry .at) (r .entry .word) (r .entry .end) hint s ⌝ }
 {
     crate::ranges::next_range(r.slice, r.at, r.word, r.end, hint)
 }
@@ -19,9 +19,9 @@ pub fn held_next<'a>(r: BitVectorRangeIterator<'a>, hint: usize) -> Next
 // A step of the held walk for a caller whose own parameters are plain, as the search.
 pub fn step(slice: &[u32], at: usize, left: u32, end: usize, hint: usize) -> Next
     requires { ⌜ Stands (now slice) at end ⌝ }
-    ensures { λ r. ⌜ Answer (now (slice .entry)) at left end hint r ⌝ }
+    ensures { λ r. ⌜ StepAnswer (now (slice .entry)) at left end hint r ⌝ }
 {
-    held_next(
+    next(
         BitVectorRangeIterator {
             slice,
             at,

@@ -14,13 +14,13 @@ fn greater(a: usize, b: usize) -> usize
 }
 
 // The start of the first run: of this one if there was none before.
-fn earlier(longest: usize, first: usize, start: usize) -> usize
+fn first_start(longest: usize, first: usize, start: usize) -> usize
     ensures { λ r. ⌜ ((longest ≡ 0 → r ≡ start) × (0 < longest → r ≡ first)) ⌝ }
 {
     if longest == 0 { start } else { first }
 }
 
-fn closed(first: usize, last: usize, longest: usize) -> Search
+fn tight_or_full(first: usize, last: usize, longest: usize) -> Search
     ensures { λ r. ⌜ ((longest ≡ 0 → r ≡ Full) × (0 < longest → r ≡ Tight first last longest)) ⌝ }
 {
     if longest == 0 {
@@ -38,22 +38,22 @@ pub fn search_window(words: &[u32], start: usize, end: usize, n: usize) -> Searc
     let w = crate::start_walk(words, start, end);
     let mut at = w.at;
     let mut word = w.word;
-    let mut from = start;
+    let mut passed = start;
     let mut first = start;
     let mut longest: usize = 0;
-    while from < end {
+    while passed < end {
         let got = crate::walker::step(words, at, word, end, n);
-        let Next::Run(s, e, next) = got else {
-            return closed(first, from, longest);
+        let Next::Run(from, to, next) = got else {
+            return tight_or_full(first, passed, longest);
         };
-        if n <= e - s {
-            return Search::At(s);
+        if n <= to - from {
+            return Search::At(from);
         }
-        first = earlier(longest, first, s);
-        longest = greater(longest, e - s);
+        first = first_start(longest, first, from);
+        longest = greater(longest, to - from);
         at = next.at;
         word = next.word;
-        from = e;
+        passed = to;
     }
-    closed(first, from, longest)
+    tight_or_full(first, passed, longest)
 }

@@ -15,12 +15,12 @@ use Rattle.state.specs.declared.State.{State}
 use Rattle.state.specs.Table.{blockAt, poolAt, all, sum}
 use Rattle.state.specs.Shape.{isEmpty, emptiesOf, arenaOk, numbersOk, zeroOk, goodShape}
 use Rattle.state.proofs.Tests.{and-both, all-of, pairs-of}
-use Rattle.shape.specs.Parts.{headOk, blockOk, blockOkIn, samePool, poolSum, poolLike, slotsApart, tableOk}
-use Rattle.shape.specs.Facts.{Headed, Lent, SoundIn}
+use Rattle.shape.specs.Parts.{headOk, blockOk, blockOkIn, samePool, poolSum, poolMatches, slotsApart, tableOk}
+use Rattle.shape.specs.Facts.{Headed, Lent, ShapedBlockIn}
 use Rattle.shape.specs.Shaped.{Shaped, Enough}
 use Rattle.shape.proofs.Bools.{not-of-false, or-left, or-right}
 use Rattle.shape.proofs.Head.{head-of}
-use Rattle.shape.proofs.Sound.{laid}
+use Rattle.shape.proofs.OneBlock.{laid}
 use Rattle.shape.proofs.Address.{layout-done}
 use Rattle.shape.proofs.Zeros.{zero-below, zero-here}
 use Rattle.shape.proofs.Whole.{whole-good}
@@ -49,9 +49,9 @@ arena-test s h =
 numbers-test : (s : State) → Headed s → numbersOk s ≡ true
 numbers-test s h =
     and-both _ _ (h .size-good)
-    (and-both _ _ (listed-test (s .g) (h .g-listed))
+    (and-both _ _ (listed-test (s .granularity) (h .g-listed))
     (and-both _ _
-    (⊎-elim (λ e. or-left (eqb (s .pools) 1) (eqb (s .pools) 3) (eq-eqb (s .pools) 1 e)) (λ e. or-right (eqb (s .pools) 1) (eqb (s .pools) 3) (eq-eqb (s .pools) 3 e)) (h .pools-listed))
+    (⊎-elim (λ e. or-left (eqb (s .poolcount) 1) (eqb (s .poolcount) 3) (eq-eqb (s .poolcount) 1 e)) (λ e. or-right (eqb (s .poolcount) 1) (eqb (s .poolcount) 3) (eq-eqb (s .poolcount) 3 e)) (h .pools-listed))
     (and-both _ _ (le-leb 1 (s .w) (h .w-low))
     (and-both _ _ (le-leb (s .w) 16384 (h .w-high))
     (and-both _ _ (arena-test s h) refl)))))
@@ -63,15 +63,15 @@ empty-test : (e : Bool) (n : ℕ) → (e ≡ true → n ≡ 0) → (n ≡ 0 → 
 empty-test true n f g = eq-eqb n 0 (f refl)
 empty-test false n f g = not-of-false (eqb n 0) (ne-eqb n 0 (λ q. not-both false (g q) refl))
 
-block-test : (s : State) (b : Block) → SoundIn s b → blockOkIn s b ≡ true
+block-test : (s : State) (b : Block) → ShapedBlockIn s b → blockOkIn s b ≡ true
 unfolding blockOk
 block-test s b k =
     and-both _ _ (lt-ltb (b .slot) (s .slots) (k .slot))
-    (and-both _ _ (lt-ltb (b .pool) (s .pools) (k .pool))
+    (and-both _ _ (lt-ltb (b .pool) (s .poolcount) (k .pool))
     (and-both _ _ (eq-eqb (b .base % 65536) 0 (k .base))
     (and-both _ _ (not-zero-test (b .area) (k .area-low))
     (and-both _ _ (eq-eqb (b .area % 32) 0 (k .area-even))
-    (and-both _ _ (eq-eqb (b .area * s .g) (b .size) (k .area-size))
+    (and-both _ _ (eq-eqb (b .area * s .granularity) (b .size) (k .area-size))
     (and-both _ _ (le-leb (b .area) (32 * s .w) (k .area-high))
     (and-both _ _ (le-leb (b .used) (b .area) (k .used))
     (and-both _ _ (le-leb (b .start) (b .area) (k .start))
@@ -99,7 +99,7 @@ module _ (s : State) (u t : ℕ) (k : Enough s u t) where
       (pairs-of (s .count) (slotsApart s)
       (λ i j h l. not-of-false (eqb (blockAt s i .slot) (blockAt s j .slot)) (ne-eqb (blockAt s i .slot) (blockAt s j .slot) (k .slots-apart i j h l))))
       (and-both _ _
-      (all-of 3 (λ p. poolLike (poolAt s p) (poolSum s (s .count) p) (s .immediate))
+      (all-of 3 (λ p. poolMatches (poolAt s p) (poolSum s (s .count) p) (s .immediate))
       (λ p l.
       and-both (samePool (poolAt s p) (poolSum s (s .count) p)) (leb (emptiesOf s p) (pick (s .immediate) 0 1))
       (same-test-pool (poolAt s p) (poolSum s (s .count) p) (k .pools p l))

@@ -22,7 +22,7 @@ arenaTests base length =
 
 abbrev numberTests : State → List Bool
 numberTests s =
-    isBaseSize (s .size) ∷ isGranularity (s .g) ∷ (eqb (s .pools) 1 || eqb (s .pools) 3) ∷ leb 1 (s .w) ∷ leb (s .w) 16384 ∷ arenaOk (s .arena) (s .length) ∷ []
+    isBaseSize (s .size) ∷ isGranularity (s .granularity) ∷ (eqb (s .poolcount) 1 || eqb (s .poolcount) 3) ∷ leb 1 (s .w) ∷ leb (s .w) 16384 ∷ arenaOk (s .arena) (s .length) ∷ []
 
 abbrev pub headTests : State → ℕ → ℕ → List Bool
 headTests s u t = numbersOk s ∷ slotsOk s ∷ slicesOk s u t ∷ countOk s ∷ []
@@ -58,8 +58,8 @@ headed s u t e =
     let slots = every-at (headTests s u t) 1 e in
     let a = every-at (numberTests s) 5 n in
     let size = size-bounds (s .size) (every-at (numberTests s) 0 n) in
-    let g = listed (s .g) (every-at (numberTests s) 1 n) in
-    let pools = one-or-three (s .pools) (every-at (numberTests s) 2 n) in
+    let g = listed (s .granularity) (every-at (numberTests s) 1 n) in
+    let pools = one-or-three (s .poolcount) (every-at (numberTests s) 2 n) in
     record {
       size-good = every-at (numberTests s) 0 n;
       size-low = size .0;

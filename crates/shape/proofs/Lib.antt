@@ -1,6 +1,6 @@
 pub mod Bools
 pub mod Head
-pub mod Sound
+pub mod OneBlock
 pub mod Sums
 pub mod Slots
 pub mod Pigeon

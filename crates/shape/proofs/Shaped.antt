@@ -13,11 +13,11 @@ use Rattle.state.specs.declared.State.{State}
 use Rattle.state.specs.Table.{blockAt, ageAt, poolAt, sum}
 use Rattle.state.specs.Shape.{poolOk, emptiesOk, emptiesOf, goodShape}
 use Rattle.state.proofs.Tests.{and-left, and-right, every-at, all-at, pairs-at}
-use Rattle.shape.specs.Parts.{blockOkIn, samePool, poolSum, poolLike, slotsApart, tableOk}
-use Rattle.shape.specs.Facts.{SoundIn}
+use Rattle.shape.specs.Parts.{blockOkIn, samePool, poolSum, poolMatches, slotsApart, tableOk}
+use Rattle.shape.specs.Facts.{ShapedBlockIn}
 use Rattle.shape.specs.Shaped.{Shaped}
 use Rattle.shape.proofs.Head.{headed, lent}
-use Rattle.shape.proofs.Sound.{sized}
+use Rattle.shape.proofs.OneBlock.{sized}
 use Rattle.shape.proofs.Pigeon.{place}
 use Rattle.shape.proofs.Walk.{tableTests, sound-in}
 use Rattle.shape.proofs.Address.{once, ages-low, pair-apart, behind}
@@ -50,7 +50,7 @@ module _ (s : State) (good : tableOk s ≡ true) where
   unfolding tableOk
   at k = every-at (tableTests s) k good
 
-  pub table-sound : (i : ℕ) → i < s .count → SoundIn s (blockAt s i)
+  pub table-sound : (i : ℕ) → i < s .count → ShapedBlockIn s (blockAt s i)
   table-sound i l = sound-in s (blockAt s i) (all-at (s .count) (λ i. blockOkIn s (blockAt s i)) i (at 0) l)
 
   pub table-slots : (i j : ℕ) → i < j → j < s .count → blockAt s i .slot ≡ blockAt s j .slot → ⊥
@@ -58,8 +58,8 @@ module _ (s : State) (good : tableOk s ≡ true) where
       eqb-false (blockAt s i .slot) (blockAt s j .slot)
       (not-true (eqb (blockAt s i .slot) (blockAt s j .slot)) (pairs-at (s .count) (slotsApart s) i j (at 1) h l))
 
-  like : (p : ℕ) → p < 3 → poolLike (poolAt s p) (poolSum s (s .count) p) (s .immediate) ≡ true
-  like p l = all-at 3 (λ p. poolLike (poolAt s p) (poolSum s (s .count) p) (s .immediate)) p (at 2) l
+  like : (p : ℕ) → p < 3 → poolMatches (poolAt s p) (poolSum s (s .count) p) (s .immediate) ≡ true
+  like p l = all-at 3 (λ p. poolMatches (poolAt s p) (poolSum s (s .count) p) (s .immediate)) p (at 2) l
 
   pub table-pools : (p : ℕ) → p < 3 → poolAt s p ≡ poolSum s (s .count) p
   table-pools p l = same-pool (poolAt s p) (poolSum s (s .count) p) (and-left (poolOk s p) (emptiesOk s p) (like p l))

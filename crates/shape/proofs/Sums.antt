@@ -26,7 +26,7 @@ only-le true n m h = h
 only-le false n m h = omega arith
 
 -- ---- no block, and one block more, in its pool and in another
-pub no-sums : (s : State) (p : ℕ) → freshPool (s .g) ≡ poolSum s 0 p
+pub no-sums : (s : State) (p : ℕ) → freshPool (s .granularity) ≡ poolSum s 0 p
 unfolding sum
 no-sums s p = refl
 

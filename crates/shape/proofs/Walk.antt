@@ -16,12 +16,12 @@ use Rattle.state.specs.declared.State.{State}
 use Rattle.state.specs.Table.{blockAt, poolAt, all, allPairs, sum, one, only}
 use Rattle.state.specs.Shape.{inPool, isEmpty, liveOk}
 use Rattle.state.proofs.Tests.{every-fails, all-of, all-fails, pairs-of, pairs-fail, sum-more, sum-bound}
-use Rattle.shape.specs.Parts.{blockOkIn, counted, poolSum, poolLike, slotsApart, tableOk}
-use Rattle.shape.specs.Facts.{Headed, SoundIn, Countable}
+use Rattle.shape.specs.Parts.{blockOkIn, counted, poolSum, poolMatches, slotsApart, tableOk}
+use Rattle.shape.specs.Facts.{Headed, ShapedBlockIn, Countable}
 use Rattle.shape.proofs.Bools.{not-of-true, not-of-false, and-then}
 use Rattle.shape.proofs.Slots.{none-seen, mark-stays}
 use Rattle.shape.proofs.Sums.{one-le, only-le, no-sums, sum-in, sum-out}
-use Rattle.shape.proofs.Sound.{sound}
+use Rattle.shape.proofs.OneBlock.{sound}
 
 abbrev slotOf : State → ℕ → ℕ
 slotOf s i = blockAt s i .slot
@@ -30,12 +30,12 @@ abbrev pub tableTests : State → List Bool
 tableTests s =
     all (s .count) (λ i. blockOkIn s (blockAt s i))
     ∷ allPairs (s .count) (slotsApart s)
-    ∷ all 3 (λ p. poolLike (poolAt s p) (poolSum s (s .count) p) (s .immediate))
+    ∷ all 3 (λ p. poolMatches (poolAt s p) (poolSum s (s .count) p) (s .immediate))
     ∷ liveOk s
     ∷ []
 
-pub sound-in : (s : State) (b : Block) → blockOkIn s b ≡ true → SoundIn s b
-sound-in s b e = sound (s .g) (s .pools) (s .w) (s .slots) (s .arena) (s .length) b e
+pub sound-in : (s : State) (b : Block) → blockOkIn s b ≡ true → ShapedBlockIn s b
+sound-in s b e = sound (s .granularity) (s .poolcount) (s .w) (s .slots) (s .arena) (s .length) b e
 
 pub record Walked (s : State) (i : ℕ) (seen : List Bool) (pools : List Pool) (total : ℕ) : Type 0 where
   pub here : i ≤ s .count
@@ -50,17 +50,17 @@ pub record Walked (s : State) (i : ℕ) (seen : List Bool) (pools : List Pool) (
   pub total-is : total ≡ sum i (λ j. blockAt s j .used)
 
 -- ---- the start
-pub walk-start : (s : State) → Walked s 0 (replicate 64 false) (replicate 3 (freshPool (s .g))) 0
+pub walk-start : (s : State) → Walked s 0 (replicate 64 false) (replicate 3 (freshPool (s .granularity))) 0
 unfolding sum
 walk-start s = record {
   here = omega arith;
   seen-64 = length-replicate 64 false;
-  pools-3 = length-replicate 3 (freshPool (s .g));
+  pools-3 = length-replicate 3 (freshPool (s .granularity));
   fine = λ j l. absurd (none j l);
   was = λ k e. absurd (not-both (getD (replicate 64 false) k false) e (none-seen 64 k));
   has = λ j l. absurd (none j l);
   fresh = λ a b h l. absurd (none b l);
-  sums = λ p l. getD-replicate 3 p (freshPool (s .g)) (freshPool 0) l ∙ no-sums s p;
+  sums = λ p l. getD-replicate 3 p (freshPool (s .granularity)) (freshPool 0) l ∙ no-sums s p;
   total-is = refl;
 }
   where
@@ -79,7 +79,7 @@ module _ {s : State} {i : ℕ} {seen : List Bool} {pools : List Pool} {total : �
   total-low = omega (arith, at .total-is, sum-bound i 524288 (λ j. blockAt s j .used) small-used, head .count-slots, head .slots-high)
 
   module _ (good : blockOkIn s (blockAt s i) ≡ true) where
-    this : SoundIn s (blockAt s i)
+    this : ShapedBlockIn s (blockAt s i)
     this = sound-in s (blockAt s i) good
 
     pub slot-low : slotOf s i < length seen
@@ -149,20 +149,20 @@ block-fails s i l e = every-fails (tableTests s) 0 (all-fails (s .count) (λ j. 
 -- ---- the end
 module _ {s : State} {seen : List Bool} {pools : List Pool} {total : ℕ} (at : Walked s (s .count) seen pools total) where
   -- the stored sums are like the walk's exactly where they are like the sums said
-  same-sums : all 3 (λ p. poolLike (poolAt s p) (getD pools p (freshPool 0)) (s .immediate)) ≡ all 3 (λ p. poolLike (poolAt s p) (poolSum s (s .count) p) (s .immediate))
+  same-sums : all 3 (λ p. poolMatches (poolAt s p) (getD pools p (freshPool 0)) (s .immediate)) ≡ all 3 (λ p. poolMatches (poolAt s p) (poolSum s (s .count) p) (s .immediate))
   unfolding all
   same-sums = simp (at .sums 0 (omega arith), at .sums 1 (omega arith), at .sums 2 (omega arith))
 
-  pub pools-fail : all 3 (λ p. poolLike (poolAt s p) (getD pools p (freshPool 0)) (s .immediate)) ≡ false → tableOk s ≡ false
+  pub pools-fail : all 3 (λ p. poolMatches (poolAt s p) (getD pools p (freshPool 0)) (s .immediate)) ≡ false → tableOk s ≡ false
   unfolding tableOk
   pools-fail e = every-fails (tableTests s) 2 (sym same-sums ∙ e)
 
-  pub walk-done : all 3 (λ p. poolLike (poolAt s p) (getD pools p (freshPool 0)) (s .immediate)) ≡ true → leb (s .live) total ≡ tableOk s
+  pub walk-done : all 3 (λ p. poolMatches (poolAt s p) (getD pools p (freshPool 0)) (s .immediate)) ≡ true → leb (s .live) total ≡ tableOk s
   unfolding tableOk
   walk-done good =
       and-then (all (s .count) (λ i. blockOkIn s (blockAt s i))) _ _ (all-of (s .count) (λ i. blockOkIn s (blockAt s i)) (at .fine))
       (and-then (allPairs (s .count) (slotsApart s)) _ _
       (pairs-of (s .count) (slotsApart s) (λ i j h l. not-of-false (eqb (slotOf s i) (slotOf s j)) (ne-eqb (slotOf s i) (slotOf s j) (at .fresh i j h l))))
-      (and-then (all 3 (λ p. poolLike (poolAt s p) (poolSum s (s .count) p) (s .immediate))) _ _
+      (and-then (all 3 (λ p. poolMatches (poolAt s p) (poolSum s (s .count) p) (s .immediate))) _ _
       (sym same-sums ∙ good)
       (ap (leb (s .live)) (at .total-is) ∙ sym (and-true (liveOk s)))))

@@ -10,7 +10,7 @@ use Rattle.state.specs.declared.State.{State}
 use Rattle.state.specs.Table.{blockAt, poolAt, all}
 use Rattle.state.specs.Shape.{numbersOk, slotsOk, placeOk, baseOk, areaOk, fieldsOk, insideOk, emptyOk, flagsOk, apart, poolOk, emptiesOk, liveOk, orderOk, zeroOk, clauses, goodShape}
 use Rattle.state.proofs.Tests.{and-left, and-right, and-both, every-at, all-at, all-of, pairs-at, pairs-of}
-use Rattle.shape.specs.Parts.{headOk, blockTests, blockOk, blockOkIn, poolSum, poolLike, slotsApart, bytesApart, tableOk, layoutOk}
+use Rattle.shape.specs.Parts.{headOk, blockTests, blockOk, blockOkIn, poolSum, poolMatches, slotsApart, bytesApart, tableOk, layoutOk}
 use Rattle.numbers.proofs.Split.{not-both}
 use Rattle.shape.proofs.Bools.{refute, same-test}
 use Rattle.shape.proofs.Head.{headTests}
@@ -19,7 +19,7 @@ use Rattle.shape.proofs.Address.{layoutTests}
 
 -- ---- one block: the clauses' tests and the one test
 abbrev areaTests : State → Block → List Bool
-areaTests s b = not (eqb (b .area) 0) ∷ eqb (b .area % 32) 0 ∷ eqb (b .area * s .g) (b .size) ∷ leb (b .area) (32 * s .w) ∷ []
+areaTests s b = not (eqb (b .area) 0) ∷ eqb (b .area % 32) 0 ∷ eqb (b .area * s .granularity) (b .size) ∷ leb (b .area) (32 * s .w) ∷ []
 
 abbrev fieldTests : Block → List Bool
 fieldTests b = leb (b .used) (b .area) ∷ leb (b .start) (b .area) ∷ leb (b .end) (b .area) ∷ leb (b .largest) (b .area) ∷ []
@@ -29,8 +29,8 @@ block-of : (s : State) (b : Block)
     → blockOkIn s b ≡ true
 unfolding blockOk
 block-of s b place base area fields inside empty flags =
-    and-both _ _ (and-left (ltb (b .slot) (s .slots)) (ltb (b .pool) (s .pools)) place)
-    (and-both _ _ (and-right (ltb (b .slot) (s .slots)) (ltb (b .pool) (s .pools)) place)
+    and-both _ _ (and-left (ltb (b .slot) (s .slots)) (ltb (b .pool) (s .poolcount)) place)
+    (and-both _ _ (and-right (ltb (b .slot) (s .slots)) (ltb (b .pool) (s .poolcount)) place)
     (and-both _ _ base
     (and-both _ _ (every-at (areaTests s b) 0 area)
     (and-both _ _ (every-at (areaTests s b) 1 area)
@@ -46,12 +46,12 @@ block-of s b place base area fields inside empty flags =
     (and-both _ _ flags refl))))))))))))))
 
 module _ (s : State) (b : Block) (good : blockOkIn s b ≡ true) where
-  at : (k : ℕ) → getD (blockTests (s .g) (s .pools) (s .w) (s .slots) (s .arena) (s .length) b) k true ≡ true
+  at : (k : ℕ) → getD (blockTests (s .granularity) (s .poolcount) (s .w) (s .slots) (s .arena) (s .length) b) k true ≡ true
   unfolding blockOk
-  at k = every-at (blockTests (s .g) (s .pools) (s .w) (s .slots) (s .arena) (s .length) b) k good
+  at k = every-at (blockTests (s .granularity) (s .poolcount) (s .w) (s .slots) (s .arena) (s .length) b) k good
 
   place-good : placeOk s b ≡ true
-  place-good = and-both (ltb (b .slot) (s .slots)) (ltb (b .pool) (s .pools)) (at 0) (at 1)
+  place-good = and-both (ltb (b .slot) (s .slots)) (ltb (b .pool) (s .poolcount)) (at 0) (at 1)
 
   base-good : baseOk b ≡ true
   base-good = at 2
@@ -98,7 +98,7 @@ module _ (s : State) (u t : ℕ) (good : goodShape s u t ≡ true) where
   unfolding clauses
   pair-good i j h l = pairs-at (s .count) (λ i j. apart (blockAt s i) (blockAt s j)) i j (clause 7) h l
 
-  pool-good : (p : ℕ) → p < 3 → poolLike (poolAt s p) (poolSum s (s .count) p) (s .immediate) ≡ true
+  pool-good : (p : ℕ) → p < 3 → poolMatches (poolAt s p) (poolSum s (s .count) p) (s .immediate) ≡ true
   unfolding clauses
   pool-good p l = and-both (poolOk s p) (emptiesOk s p) (all-at 3 (poolOk s) p (clause 10) l) (all-at 3 (emptiesOk s) p (clause 11) l)
 
@@ -119,7 +119,7 @@ module _ (s : State) (u t : ℕ) (good : goodShape s u t ≡ true) where
   good-table =
       and-both _ _ (all-of (s .count) (λ i. blockOkIn s (blockAt s i)) block-good)
       (and-both _ _ (pairs-of (s .count) (slotsApart s) (λ i j h l. and-left (slotsApart s i j) (bytesApart s i j) (pair-good i j h l)))
-      (and-both _ _ (all-of 3 (λ p. poolLike (poolAt s p) (poolSum s (s .count) p) (s .immediate)) pool-good)
+      (and-both _ _ (all-of 3 (λ p. poolMatches (poolAt s p) (poolSum s (s .count) p) (s .immediate)) pool-good)
       (and-both _ _ live-good refl)))
 
   pub good-layout : layoutOk s ≡ true
@@ -146,8 +146,8 @@ module _ (s : State) (u t : ℕ) (head : headOk s u t ≡ true) (table : tableOk
   fine : (i : ℕ) → i < s .count → blockOkIn s (blockAt s i) ≡ true
   fine i l = all-at (s .count) (λ i. blockOkIn s (blockAt s i)) i (b 0) l
 
-  like : (p : ℕ) → p < 3 → poolLike (poolAt s p) (poolSum s (s .count) p) (s .immediate) ≡ true
-  like p l = all-at 3 (λ p. poolLike (poolAt s p) (poolSum s (s .count) p) (s .immediate)) p (b 2) l
+  like : (p : ℕ) → p < 3 → poolMatches (poolAt s p) (poolSum s (s .count) p) (s .immediate) ≡ true
+  like p l = all-at 3 (λ p. poolMatches (poolAt s p) (poolSum s (s .count) p) (s .immediate)) p (b 2) l
 
   pub whole-good : goodShape s u t ≡ true
   unfolding clauses

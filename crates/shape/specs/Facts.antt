@@ -15,12 +15,12 @@ pub record Headed (s : State) : Type 0 where
   pub size-good : isBaseSize (s .size) ≡ true
   pub size-low : 65536 ≤ s .size
   pub size-high : s .size ≤ 33554432
-  pub g-listed : (s .g ≡ 64) ⊎ ((s .g ≡ 128) ⊎ (s .g ≡ 256))
-  pub g-low : 64 ≤ s .g
-  pub g-high : s .g ≤ 256
-  pub pools-listed : (s .pools ≡ 1) ⊎ (s .pools ≡ 3)
-  pub pools-low : 1 ≤ s .pools
-  pub pools-high : s .pools ≤ 3
+  pub g-listed : (s .granularity ≡ 64) ⊎ ((s .granularity ≡ 128) ⊎ (s .granularity ≡ 256))
+  pub g-low : 64 ≤ s .granularity
+  pub g-high : s .granularity ≤ 256
+  pub pools-listed : (s .poolcount ≡ 1) ⊎ (s .poolcount ≡ 3)
+  pub pools-low : 1 ≤ s .poolcount
+  pub pools-high : s .poolcount ≤ 3
   pub w-low : 1 ≤ s .w
   pub w-high : s .w ≤ 16384
   pub arena-low : 0 < s .arena
@@ -38,7 +38,7 @@ pub record Lent (s : State) (usedWords stopWords : ℕ) : Type 0 where
   pub stop-room : s .slots * s .w ≤ stopWords
 
 -- one block
-pub record Sound (g pools w slots arena length : ℕ) (b : Block) : Type 0 where
+pub record ShapedBlock (g pools w slots arena length : ℕ) (b : Block) : Type 0 where
   pub slot : b .slot < slots
   pub pool : b .pool < pools
   pub base : b .base % 65536 ≡ 0
@@ -56,8 +56,8 @@ pub record Sound (g pools w slots arena length : ℕ) (b : Block) : Type 0 where
   pub unused-empty : b .used ≡ 0 → isEmpty b ≡ true
   pub flags : b .flags ≤ 3
 
-abbrev pub SoundIn : State → Block → Type 0
-SoundIn s b = Sound (s .g) (s .pools) (s .w) (s .slots) (s .arena) (s .length) b
+abbrev pub ShapedBlockIn : State → Block → Type 0
+ShapedBlockIn s b = ShapedBlock (s .granularity) (s .poolcount) (s .w) (s .slots) (s .arena) (s .length) b
 
 -- one block more fits the pool's sums
 pub record Countable (q : Pool) (b : Block) : Type 0 where

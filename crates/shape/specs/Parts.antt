@@ -39,7 +39,7 @@ unfoldable pub blockOk : ℕ → ℕ → ℕ → ℕ → ℕ → ℕ → Block �
 blockOk g pools w slots arena length b = every (blockTests g pools w slots arena length b)
 
 abbrev pub blockOkIn : State → Block → Bool
-blockOkIn s b = blockOk (s .g) (s .pools) (s .w) (s .slots) (s .arena) (s .length) b
+blockOkIn s b = blockOk (s .granularity) (s .poolcount) (s .w) (s .slots) (s .arena) (s .length) b
 
 -- ---- pools
 -- the sums with one block more
@@ -55,7 +55,7 @@ counted q b = record {
 -- the sums over those of the n oldest blocks that are in pool p
 abbrev pub poolSum : State → ℕ → ℕ → Pool
 poolSum s n p = record {
-  granularity = s .g;
+  granularity = s .granularity;
   blocks = sum n (λ i. one (inPool s p i));
   empty = sum n (λ i. one (inPool s p i && isEmpty (blockAt s i)));
   area = sum n (λ i. only (inPool s p i) (blockAt s i .area));
@@ -72,8 +72,8 @@ samePool a b =
     ∷ eqb (a .used) (b .used)
     ∷ [])
 
-abbrev pub poolLike : Pool → Pool → Bool → Bool
-poolLike stored sums immediate = samePool stored sums && leb (sums .empty) (pick immediate 0 1)
+abbrev pub poolMatches : Pool → Pool → Bool → Bool
+poolMatches stored sums immediate = samePool stored sums && leb (sums .empty) (pick immediate 0 1)
 
 -- ---- the table, the address order, and what lies behind both
 abbrev pub slotsApart : State → ℕ → ℕ → Bool
@@ -87,7 +87,7 @@ tableOk s =
     every
     (all (s .count) (λ i. blockOkIn s (blockAt s i))
     ∷ allPairs (s .count) (slotsApart s)
-    ∷ all 3 (λ p. poolLike (poolAt s p) (poolSum s (s .count) p) (s .immediate))
+    ∷ all 3 (λ p. poolMatches (poolAt s p) (poolSum s (s .count) p) (s .immediate))
     ∷ liveOk s
     ∷ [])
 

@@ -9,12 +9,12 @@ use Rattle.state.specs.declared.State.{State}
 use Rattle.state.specs.Table.{blockAt, ageAt, poolAt, sum, one}
 use Rattle.state.specs.Shape.{isZero, emptiesOf}
 use Rattle.shape.specs.Parts.{poolSum}
-use Rattle.shape.specs.Facts.{Headed, Lent, SoundIn}
+use Rattle.shape.specs.Facts.{Headed, Lent, ShapedBlockIn}
 
 pub record Shaped (s : State) (usedWords stopWords : ℕ) : Type 0 where
   pub head : Headed s
   pub lent : Lent s usedWords stopWords
-  pub sound : (i : ℕ) → i < s .count → SoundIn s (blockAt s i)
+  pub sound : (i : ℕ) → i < s .count → ShapedBlockIn s (blockAt s i)
   pub sized : (i : ℕ) → i < s .count → 0 < blockAt s i .size
   -- two blocks share no slot and no byte
   pub slots-apart : (i j : ℕ) → i < j → j < s .count → blockAt s i .slot ≡ blockAt s j .slot → ⊥
@@ -39,7 +39,7 @@ pub record Shaped (s : State) (usedWords stopWords : ℕ) : Type 0 where
 pub record Enough (s : State) (usedWords stopWords : ℕ) : Type 0 where
   pub head : Headed s
   pub lent : Lent s usedWords stopWords
-  pub sound : (i : ℕ) → i < s .count → SoundIn s (blockAt s i)
+  pub sound : (i : ℕ) → i < s .count → ShapedBlockIn s (blockAt s i)
   pub slots-apart : (i j : ℕ) → i < j → j < s .count → blockAt s i .slot ≡ blockAt s j .slot → ⊥
   pub pools : (p : ℕ) → p < 3 → poolAt s p ≡ poolSum s (s .count) p
   pub empties : (p : ℕ) → p < 3 → emptiesOf s p ≤ pick (s .immediate) 0 1

@@ -57,20 +57,20 @@ fn empty_ok(b: Block) -> bool
 // All that is asked of one block by itself. `size` is taken from `length` only where it is not larger.
 pub fn block_ok(
     b: Block,
-    g: u64,
-    pools: usize,
+    granularity: u64,
+    poolcount: usize,
     w: usize,
     slots: usize,
     arena: u64,
     length: u64,
 ) -> bool
-    requires { ⌜ (g ≤ 256) × (w ≤ 16384) ⌝ }
-    ensures { λ r. ⌜ r ≡ blockOk g pools w slots arena length b ⌝ }
+    requires { ⌜ (granularity ≤ 256) × (w ≤ 16384) ⌝ }
+    ensures { λ r. ⌜ r ≡ blockOk granularity poolcount w slots arena length b ⌝ }
 {
     if b.slot >= slots {
         return false;
     }
-    if b.pool >= pools {
+    if b.pool >= poolcount {
         return false;
     }
     if b.base % 65536 != 0 {
@@ -86,7 +86,7 @@ pub fn block_ok(
     if area > 32 * w as u64 {
         return false;
     }
-    if area * g != b.size {
+    if area * granularity != b.size {
         return false;
     }
     if b.used > b.area {

@@ -37,11 +37,11 @@ fn numbers_ok(s: State) -> bool
     if !sizes::limits::is_base_size(s.size) {
         return false;
     }
-    if !sizes::limits::is_granularity(s.g) {
+    if !sizes::limits::is_granularity(s.granularity) {
         return false;
     }
-    if s.pools != 1 {
-        if s.pools != 3 {
+    if s.poolcount != 1 {
+        if s.poolcount != 3 {
             return false;
         }
     }

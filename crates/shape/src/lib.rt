@@ -19,12 +19,20 @@ pub fn table_ok(s: State) -> bool
     ensures { λ r. ⌜ r ≡ tableOk s ⌝ }
 {
     let mut seen = [false; 64];
-    let mut sums = [Pool::new(s.g); 3];
+    let mut sums = [Pool::new(s.granularity); 3];
     let mut used: u64 = 0;
     let mut i: usize = 0;
     while i < s.count {
         let b = s.blocks[i];
-        if !blocks::block_ok(b, s.g, s.pools, s.w, s.slots, s.arena, s.length) {
+        if !blocks::block_ok(
+            b,
+            s.granularity,
+            s.poolcount,
+            s.w,
+            s.slots,
+            s.arena,
+            s.length,
+        ) {
             return false;
         }
         let slot = b.slot;
@@ -38,7 +46,7 @@ pub fn table_ok(s: State) -> bool
         used += b.used as u64;
         i += 1;
     }
-    if !pools::pools_like(s.pool, sums, s.immediate) {
+    if !pools::pools_match(s.pools, sums, s.immediate) {
         return false;
     }
     s.live <= used

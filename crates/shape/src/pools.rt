@@ -4,7 +4,7 @@ use sizes::Pool;
 ghost use mathlib.Core.Path.{_≡_};
 ghost use lib.ListN.{getD};
 ghost use Rattle.state.specs.Table.{one, all};
-ghost use Rattle.shape.specs.Parts.{samePool, poolLike, counted};
+ghost use Rattle.shape.specs.Parts.{samePool, poolMatches, counted};
 ghost use Rattle.shape.specs.Facts.{Countable};
 ghost use Rattle.sizes.specs.Pools.{freshPool};
 
@@ -51,8 +51,8 @@ fn same_pool(a: Pool, b: Pool) -> bool
 }
 
 // A pool's record is like the sums over its blocks, and no more of them are empty than may be.
-pub fn pool_like(stored: Pool, sums: Pool, immediate: bool) -> bool
-    ensures { λ r. ⌜ r ≡ poolLike stored sums immediate ⌝ }
+pub fn pool_matches(stored: Pool, sums: Pool, immediate: bool) -> bool
+    ensures { λ r. ⌜ r ≡ poolMatches stored sums immediate ⌝ }
 {
     if !same_pool(stored, sums) {
         return false;
@@ -64,12 +64,12 @@ pub fn pool_like(stored: Pool, sums: Pool, immediate: bool) -> bool
 }
 
 // Each pool's record is like its sums.
-pub fn pools_like(stored: [Pool; 3], sums: [Pool; 3], immediate: bool) -> bool
-    ensures { λ r. ⌜ r ≡ all 3 (λ p. poolLike (getD stored p (freshPool 0)) (getD sums p (freshPool 0)) immediate) ⌝ }
+pub fn pools_match(stored: [Pool; 3], sums: [Pool; 3], immediate: bool) -> bool
+    ensures { λ r. ⌜ r ≡ all 3 (λ p. poolMatches (getD stored p (freshPool 0)) (getD sums p (freshPool 0)) immediate) ⌝ }
 {
     let mut p: usize = 0;
     while p < 3 {
-        if !crate::pools::pool_like(stored[p], sums[p], immediate) {
+        if !pool_matches(stored[p], sums[p], immediate) {
             return false;
         }
         p += 1;

@@ -29,9 +29,9 @@ unfolding all
 all-same zero f g h = refl
 all-same (suc n) f g h = ap₂ (λ (b c : Bool). b && c) (all-same n f g h) (h n)
 
-module _ (s : State) (bs : List Block) (alike : (i : ℕ) → Same (blockAt (withTable s (s .count) bs (s .order) (s .pool)) i) (blockAt s i)) where
+module _ (s : State) (bs : List Block) (alike : (i : ℕ) → Same (blockAt (withTable s (s .count) bs (s .order) (s .pools)) i) (blockAt s i)) where
   abbrev r : State
-  r = withTable s (s .count) bs (s .order) (s .pool)
+  r = withTable s (s .count) bs (s .order) (s .pools)
 
   pub slot-alike : lowestSlot r ≡ lowestSlot s
   slot-alike =

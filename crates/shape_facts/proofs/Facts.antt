@@ -25,7 +25,7 @@ use Rattle.shape.specs.Shaped.{Shaped}
 use Rattle.table.specs.Ordered.{Ordered, Arranged, Slotted}
 use Rattle.machine.specs.Turn.{unitOf}
 use Rattle.machine.specs.Span.{starts, upTo, heldAt, heldOf}
-use Rattle.spans.specs.Within.{Within}
+use Rattle.spans.specs.AddressIn.{AddressIn}
 
 module _ (s : State) (u t : ℕ) (f : Shaped s u t) where
   pub count-64 : s .count ≤ 64
@@ -73,10 +73,10 @@ module _ (s : State) (u t : ℕ) (f : Shaped s u t) where
   pool-3 i h = omega (arith, f .sound i h .pool, f .head .pools-high)
 
   -- every pool's unit is g
-  pub unit-g : (p : ℕ) → p < 3 → poolAt s p .granularity ≡ s .g
+  pub unit-g : (p : ℕ) → p < 3 → poolAt s p .granularity ≡ s .granularity
   unit-g p h = ap (λ (q : Pool). q .granularity) (f .pools p h)
 
-  pub within : (j a : ℕ) → j < s .count → holds (blockAt s j) a ≡ true → Within (blockAt s j) (unitOf s (blockAt s j)) a
+  pub within : (j a : ℕ) → j < s .count → holds (blockAt s j) a ≡ true → AddressIn (blockAt s j) (unitOf s (blockAt s j)) a
   within j a h e =
       let b = f .sound j h in
       let g = unit-g (blockAt s j .pool) (pool-3 j h) in
@@ -90,7 +90,7 @@ module _ (s : State) (u t : ℕ) (f : Shaped s u t) where
 
   -- what stands there may be asked
   pub askable : (j a : ℕ) → j < s .count → holds (blockAt s j) a ≡ true
-      → (j < 64) × (blockAt s j .pool < 3) × Placed (blockAt s j) (s .w) u t × Within (blockAt s j) (unitOf s (blockAt s j)) a
+      → (j < 64) × (blockAt s j .pool < 3) × Placed (blockAt s j) (s .w) u t × AddressIn (blockAt s j) (unitOf s (blockAt s j)) a
   askable j a h e = (omega (arith, count-64), pool-3 j h, placed j h, within j a h e)
 
 -- ---- a block that the lookup finds holds the address
@@ -133,7 +133,7 @@ bytes-fit s u t f p n h l =
     omega (
       arith,
       ap (λ (k : ℕ). n * k) (unit-g s u t f p h),
-      mul-le-mul {n₁ = n} {m₁ = s .g} {n₂ = 524288} {m₂ = 256} (omega (arith, f .head .w-high)) (f .head .g-high),
+      mul-le-mul {n₁ = n} {m₁ = s .granularity} {n₂ = 524288} {m₂ = 256} (omega (arith, f .head .w-high)) (f .head .g-high),
     )
 
 -- some units of a block make a span

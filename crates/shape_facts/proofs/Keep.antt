@@ -15,7 +15,7 @@ use Rattle.state.specs.Table.{zeroBlock, blockAt, ageAt, one, only}
 use Rattle.state.specs.Shape.{isEmpty, inPool, isZero}
 use Rattle.state.proofs.Tests.{sum-same}
 use Rattle.shape.specs.Parts.{poolSum}
-use Rattle.shape.specs.Facts.{Headed, SoundIn}
+use Rattle.shape.specs.Facts.{Headed, ShapedBlockIn}
 use Rattle.shape.specs.Shaped.{Shaped, Enough}
 use Rattle.shape.proofs.Shaped.{shaped-is}
 use Rattle.shape.proofs.Enough.{enough-good}
@@ -45,7 +45,7 @@ module _ (s : State) (j : ℕ) (c : Block) (len : length (s .blocks) ≡ 64) whe
   pub put-length : length (putBlock s j c .blocks) ≡ 64
   put-length = length-set (s .blocks) j c ∙ len
 
-  module _ (u t : ℕ) (f : Shaped s u t) (h : j < s .count) (like : Same c (blockAt s j)) (sound : SoundIn s c) where
+  module _ (u t : ℕ) (f : Shaped s u t) (h : j < s .count) (like : Same c (blockAt s j)) (sound : ShapedBlockIn s c) where
     below : j < 64
     below = omega (arith, f .head .count-slots, f .head .slots-high)
 
@@ -68,7 +68,7 @@ module _ (s : State) (j : ℕ) (c : Block) (len : length (s .blocks) ≡ 64) whe
         (λ i l. ap₂ (λ (a : Bool) (n : ℕ). only a n) (in-pool p i) (alike i .area)) in
         let used = sum-same (s .count) (λ i. only (inPool (putBlock s j c) p i) (blockAt (putBlock s j c) i .used)) (λ i. only (inPool s p i) (blockAt s i .used))
         (λ i l. ap₂ (λ (a : Bool) (n : ℕ). only a n) (in-pool p i) (alike i .used)) in
-        pool-of (s .g) blocks empty area used
+        pool-of (s .granularity) blocks empty area used
       where
         pool-of : (g : ℕ) {a b a′ b′ a″ b″ a‴ b‴ : ℕ} → a ≡ b → a′ ≡ b′ → a″ ≡ b″ → a‴ ≡ b‴
             → _≡_ {A = Pool} (record { granularity = g; blocks = a; empty = a′; area = a″; used = a‴ }) (record { granularity = g; blocks = b; empty = b′; area = b″; used = b‴ })
@@ -102,8 +102,8 @@ module _ (s : State) (j : ℕ) (c : Block) (len : length (s .blocks) ≡ 64) whe
       head = head-kept;
       lent = record { used-room = f .lent .used-room; stop-room = f .lent .stop-room };
       sound = λ i l. by-eq i j
-          (λ e. subst (λ (k : ℕ). SoundIn s (blockAt (putBlock s j c) k)) (sym e) (subst (SoundIn s) (sym (put-here below)) sound))
-          (λ ne. subst (SoundIn s) (sym (put-there i ne)) (f .sound i l));
+          (λ e. subst (λ (k : ℕ). ShapedBlockIn s (blockAt (putBlock s j c) k)) (sym e) (subst (ShapedBlockIn s) (sym (put-here below)) sound))
+          (λ ne. subst (ShapedBlockIn s) (sym (put-there i ne)) (f .sound i l));
       slots-apart = λ i k l m e. f .slots-apart i k l m (sym (alike i .slot) ∙ e ∙ alike k .slot);
       pools = λ p l. f .pools p l ∙ sym (sums p);
       empties = λ p l. subst (λ (n : ℕ). n ≤ pick (s .immediate) 0 1) (sym (ap (λ (q : Pool). q .empty) (sums p))) (f .empties p l);

@@ -26,7 +26,7 @@ use Rattle.state.proofs.Find.{Least, least-of}
 use Rattle.shape.specs.Parts.{poolSum}
 use Rattle.shape.specs.Shaped.{Shaped}
 use Rattle.shape_facts.proofs.Facts.{count-64, pool-3, placed}
-use Rattle.table.specs.Ready.{Leaves}
+use Rattle.table.specs.Changeable.{Removable}
 use Rattle.machine.specs.Turn.{withLive, withCounts}
 use Rattle.machine.specs.Release.{lessUsed}
 use Rattle.shape_facts.specs.Ready.{Settles}
@@ -138,7 +138,7 @@ module _ (s : State) (u t : ℕ) (f : Shaped s u t) (j : ℕ) (h : j < s .count)
     age-rest k l = by-le 64 k (λ g. List·getD-eq-default (s .order) 0 {n = k} (omega (arith, order))) (λ g. f .zero-ages k l g)
 
     -- ---- once its record is b and n units of its pool are no longer used
-    module _ (pools : length (s .pool) ≡ 3) (b : Block) (n live : ℕ) (stays : Stays b (blockAt s j)) where
+    module _ (pools : length (s .pools) ≡ 3) (b : Block) (n live : ℕ) (stays : Stays b (blockAt s j)) where
       abbrev after : State
       after = withLive (lessUsed s j b n) live
 
@@ -154,9 +154,9 @@ module _ (s : State) (u t : ℕ) (f : Shaped s u t) (j : ℕ) (h : j < s .count)
       now-pool : poolAt after (blockAt after j .pool) ≡ less
       now-pool =
           ap (λ (p : ℕ). poolAt after p) now-of
-          ∙ getD-set-same (s .pool) (blockAt s j .pool) less (freshPool 0) (omega (arith, pools, pool-3 s u t f j h))
+          ∙ getD-set-same (s .pools) (blockAt s j .pool) less (freshPool 0) (omega (arith, pools, pool-3 s u t f j h))
 
-      pub leaves-after : Leaves after j
+      pub leaves-after : Removable after j
       leaves-after = record {
         stands = h;
         few = count-64 s u t f;

@@ -30,7 +30,7 @@ module _ (s : State) (u t : ℕ) (b : Block) (n : ℕ) (m : Makeable s u t b n) 
       ≡ withBlocks (poolAt s (b .pool)) (poolAt s (b .pool) .blocks + 1) (poolAt s (b .pool) .area + b .area)
   pool-is =
       ap (λ (x : Block). poolAt (inserted s b) (x .pool)) last-is
-      ∙ getD-set-same (s .pool) (b .pool) (withBlocks (poolAt s (b .pool)) (poolAt s (b .pool) .blocks + 1) (poolAt s (b .pool) .area + b .area)) (freshPool 0) (omega (arith, m .enters .pool, m .pools))
+      ∙ getD-set-same (s .pools) (b .pool) (withBlocks (poolAt s (b .pool)) (poolAt s (b .pool) .blocks + 1) (poolAt s (b .pool) .area + b .area)) (freshPool 0) (omega (arith, m .enters .pool, m .pools))
 
   unit-is : unitOf (inserted s b) (blockAt (inserted s b) (s .count)) ≡ unitOf s b
   unit-is = ap (λ (q : Pool). q .granularity) pool-is

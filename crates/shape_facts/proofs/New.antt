@@ -40,7 +40,7 @@ module _ (s : State) (u t p n bytes : ℕ) (m : Makes s u t p n bytes) where
   span-fits = le-of-mul-le-mul-right {m = n} {n = unitsOf bytes unit} {k = unit} (omega (arith, m .fits, units-hold bytes unit (omega (arith, unit-low)))) (omega (arith, unit-low))
 
   module _ (at k : ℕ) (ea : Address at ≡ lowestPlace s bytes) (ek : At k ≡ lowestSlot s) (words : unitsOf (unitsOf bytes unit) 32 ≤ s .w)
-      (blocks : length (s .blocks) ≡ 64) (order : length (s .order) ≡ 64) (pools : length (s .pool) ≡ 3) where
+      (blocks : length (s .blocks) ≡ 64) (order : length (s .order) ≡ 64) (pools : length (s .pools) ≡ 3) where
     abbrev new : Block
     new = fresh at bytes p k (unitsOf bytes unit) n
 

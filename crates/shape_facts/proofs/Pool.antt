@@ -41,7 +41,7 @@ module _ (s : State) (u t bytes : ℕ) (m : Allocates s u t bytes) where
   f = m .shaped
 
   abbrev p : ℕ
-  p = poolOf bytes (s .g) (s .pools)
+  p = poolOf bytes (s .granularity) (s .poolcount)
 
   abbrev unit : ℕ
   unit = poolAt s p .granularity
@@ -50,9 +50,9 @@ module _ (s : State) (u t bytes : ℕ) (m : Allocates s u t bytes) where
   n = unitsOf bytes unit
 
   pub pool-in : p < 3
-  pool-in = omega (arith, pool-below bytes (s .g) (s .pools) (f .head .pools-listed), f .head .pools-high)
+  pool-in = omega (arith, pool-below bytes (s .granularity) (s .poolcount) (f .head .pools-listed), f .head .pools-high)
 
-  unit-is : unit ≡ s .g
+  unit-is : unit ≡ s .granularity
   unit-is = unit-g s u t f p pool-in
 
   pub unit-some : 64 ≤ unit
@@ -109,7 +109,7 @@ newest-bounds r u t p f = go (latest (r .count) (λ i. eqb (blockAt r i .pool) p
     go : (x : Found) → Latest (r .count) (λ i. eqb (blockAt r i .pool) p) x → (0 < sizeOr r x) × (sizeOr r x ≤ 2 ^ 27)
     go (At i) q =
         let b = f .sound i (q .high) in
-        (f .sized i (q .high), omega (arith, b .area-size, mul-le-mul {n₁ = blockAt r i .area} {m₁ = r .g} {n₂ = 524288} {m₂ = 256} (omega (arith, b .area-high, f .head .w-high)) (f .head .g-high)))
+        (f .sized i (q .high), omega (arith, b .area-size, mul-le-mul {n₁ = blockAt r i .area} {m₁ = r .granularity} {n₂ = 524288} {m₂ = 256} (omega (arith, b .area-high, f .head .w-high)) (f .head .g-high)))
     go Nothing q = (omega (arith, f .head .size-low), omega (arith, f .head .size-high))
 
 pub newest-asked : (r : State) (u t p bytes : ℕ) → Shaped r u t → bytes ≤ 2147483647 → (0 < newestSize r p) × (newestSize r p ≤ 2 ^ 27) × (bytes < 2 ^ 32)
@@ -130,7 +130,7 @@ new-ready r u t p n bytes f p3 pos some most fits =
     }
 
 -- units of a pool hold no more bytes after the search than before it
-pub units-kept : (s r : State) → r .pool ≡ s .pool → (p q n k bytes : ℕ) → p ≡ q → n ≡ k → k * poolAt s q .granularity ≡ bytes → n * poolAt r p .granularity ≤ bytes
+pub units-kept : (s r : State) → r .pools ≡ s .pools → (p q n k bytes : ℕ) → p ≡ q → n ≡ k → k * poolAt s q .granularity ≡ bytes → n * poolAt r p .granularity ≤ bytes
 units-kept s r e p q n k bytes ep en h =
     let unit : poolAt r p .granularity ≡ poolAt s q .granularity = ap₂ (λ (l : List Pool) (i : ℕ). getD l i (freshPool 0) .granularity) e ep in
     omega (arith, ap₂ (λ (x y : ℕ). x * y) en unit, h)

@@ -21,7 +21,7 @@ use Rattle.state.proofs.Tests.{and-left, all-at, sum-bound}
 use Rattle.state.proofs.Find.{Least, least-of}
 use Rattle.shape.specs.Shaped.{Shaped}
 use Rattle.shape.proofs.Pigeon.{each-once, place}
-use Rattle.table.specs.Ready.{Enters}
+use Rattle.table.specs.Changeable.{Insertable}
 use Rattle.shape_facts.proofs.Facts.{count-64}
 
 -- ---- the lowest slot is free, and one of those in force
@@ -79,7 +79,7 @@ module _ (s : State) (u t : ℕ) (f : Shaped s u t) where
       omega (arith, f .live, used)
 
   -- a block of at most 524,288 units of a pool in force may enter
-  pub enters : (b : Block) → length (s .order) ≡ 64 → s .count < s .slots → b .pool < 3 → b .area ≤ 524288 → Enters s b
+  pub enters : (b : Block) → length (s .order) ≡ 64 → s .count < s .slots → b .pool < 3 → b .area ≤ 524288 → Insertable s b
   enters b len h p a =
       let q = pool-small (b .pool) p in
       record {

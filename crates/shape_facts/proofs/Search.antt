@@ -19,7 +19,7 @@ use Rattle.slots.specs.Slots.{slotOf}
 use Rattle.block.specs.declared.Block.{Block}
 use Rattle.block.specs.declared.Looked.{Looked}
 use Rattle.block.specs.declared.Looked.the-variants.{Found, Missed}
-use Rattle.block.specs.Search.{isDirty, looks, looked, tightened, lookInto}
+use Rattle.block.specs.Search.{isDirty, worthSearching, looked, tightened, lookInto}
 use Rattle.block.proofs.Flags.{empty-kept, off-le}
 use Rattle.state.specs.declared.State.{State}
 use Rattle.state.specs.declared.Hit.{Hit}
@@ -27,7 +27,7 @@ use Rattle.state.specs.declared.Hit.the-variants.{At, Nowhere}
 use Rattle.state.specs.declared.Searched.{Searched}
 use Rattle.state.specs.Table.{blockAt}
 use Rattle.state.specs.Shape.{inPool}
-use Rattle.shape.specs.Facts.{SoundIn}
+use Rattle.shape.specs.Facts.{ShapedBlockIn}
 use Rattle.shape.specs.Shaped.{Shaped}
 use Rattle.machine.specs.Turn.{putBlock}
 use Rattle.machine.specs.Alloc.{searched, after, searchFrom, searchPool}
@@ -45,34 +45,34 @@ Told b n (Found i) = Fits b n i
 Told b n (Missed c) = (c ≡ b) ⊎ ((f : ℕ) × (l : ℕ) × (m : ℕ) × (c ≡ tightened b f l m) × (f ≤ b .area) × (l ≤ b .area) × (m ≤ b .area))
 
 module _ (b : Block) (u : List ℕ) (n : ℕ) (pos : 0 < n) (within : b .end ≤ b .area) (counted : b .used ≤ b .area) where
-  looks-room : looks b n ≡ true → b .used + n ≤ b .area
-  unfolding looks
+  looks-room : worthSearching b n ≡ true → b .used + n ≤ b .area
+  unfolding worthSearching
   looks-room e = go (leb n (b .area - b .used)) refl e
     where
       go : (c : Bool) → leb n (b .area - b .used) ≡ c → pick c (pick (isDirty b) true (leb n (b .largest))) false ≡ true → b .used + n ≤ b .area
       go true h z = omega (arith, leb-true n (b .area - b .used) h)
       go false h z = let z : _≡_ {A = ℕ} 0 1 = cc in absurd (omega arith)
 
-  told-sought : looks b n ≡ true → (r : Search) → Sought u (b .start) (b .end) n r → Told b n (looked b r)
+  told-sought : worthSearching b n ≡ true → (r : Search) → Sought u (b .start) (b .end) n r → Told b n (looked b r)
   told-sought e (at i) q = record { high = omega (arith, q .high); room = looks-room e }
   told-sought e (Tight f l m) q =
       let t = q .0 in
       inr (f, l, m, refl, omega (arith, t .some, t .high), omega (arith, t .high), omega (arith, t .place .2))
   told-sought e Full q = inl refl
 
-  told-pick : (c : Bool) → looks b n ≡ c → (r : Search) → Sought u (b .start) (b .end) n r → Told b n (pick c (looked b r) (Missed b))
+  told-pick : (c : Bool) → worthSearching b n ≡ c → (r : Search) → Sought u (b .start) (b .end) n r → Told b n (pick c (looked b r) (Missed b))
   told-pick true e r q = told-sought e r q
   told-pick false e r q = inl refl
 
 pub told : (w : ℕ) (b : Block) (u : List ℕ) (n : ℕ) → 0 < n → b .end ≤ b .area → b .used ≤ b .area → Told b n (lookInto w b u n)
 unfolding lookInto
 told w b u n pos h g =
-    told-pick b (slotOf w (b .slot) u) n pos h g (looks b n) refl (seek (slotOf w (b .slot) u) (b .start) (b .end) n) (seek-is (slotOf w (b .slot) u) (b .start) (b .end) n pos)
+    told-pick b (slotOf w (b .slot) u) n pos h g (worthSearching b n) refl (seek (slotOf w (b .slot) u) (b .start) (b .end) n) (seek-is (slotOf w (b .slot) u) (b .start) (b .end) n pos)
 
 tight-same : (b : Block) (f l m : ℕ) → Same (tightened b f l m) b
 tight-same b f l m = record { base = refl; size = refl; pool = refl; slot = refl; area = refl; used = refl; empty = empty-kept (b .flags) }
 
-tight-sound : (s : State) (b : Block) (f l m : ℕ) → SoundIn s b → f ≤ b .area → l ≤ b .area → m ≤ b .area → SoundIn s (tightened b f l m)
+tight-sound : (s : State) (b : Block) (f l m : ℕ) → ShapedBlockIn s b → f ≤ b .area → l ≤ b .area → m ≤ b .area → ShapedBlockIn s (tightened b f l m)
 tight-sound s b f l m q x y z = record {
   slot = q .slot;
   pool = q .pool;
@@ -103,7 +103,7 @@ module _ (u : List ℕ) (t p n : ℕ) (pos : 0 < n) where
     pub shaped : Shaped (r .state) (length u) t
     pub size : length (r .state .blocks) ≡ 64
     pub order : r .state .order ≡ s .order
-    pub pools : r .state .pool ≡ s .pool
+    pub pools : r .state .pools ≡ s .pools
     pub count : r .state .count ≡ s .count
     pub live : r .state .live ≡ s .live
     pub alike : (i : ℕ) → Same (blockAt (r .state) i) (blockAt s i)
@@ -120,7 +120,7 @@ module _ (u : List ℕ) (t p n : ℕ) (pos : 0 < n) where
     empty = x .empty ∙ y .empty;
   }
 
-  left-trans : {s m : State} {r : Searched} → Left m r → m .order ≡ s .order → m .pool ≡ s .pool → m .count ≡ s .count → m .live ≡ s .live
+  left-trans : {s m : State} {r : Searched} → Left m r → m .order ≡ s .order → m .pools ≡ s .pools → m .count ≡ s .count → m .live ≡ s .live
       → ((i : ℕ) → Same (blockAt m i) (blockAt s i)) → Left s r
   left-trans q o e c l f = record {
     shaped = q .shaped;
@@ -150,7 +150,7 @@ module _ (u : List ℕ) (t p n : ℕ) (pos : 0 < n) where
 
   -- the rest goes on with the block as it is now
   moved : (s : State) (i : ℕ) (c : Block) (rest : State → Searched) → Rest rest (s .count) → Shaped s (length u) t → length (s .blocks) ≡ 64 → i < s .count
-      → Same c (blockAt s i) → SoundIn s c → Left s (rest (putBlock s i c))
+      → Same c (blockAt s i) → ShapedBlockIn s c → Left s (rest (putBlock s i c))
   moved s i c rest ih f len h like sound =
       left-trans (ih (putBlock s i c) refl (put-shaped s i c len (length u) t f h like sound) (put-length s i c len)) refl refl refl refl
       (λ k. by-eq k i
@@ -163,10 +163,10 @@ module _ (u : List ℕ) (t p n : ℕ) (pos : 0 < n) where
       → blockAt s i .pool ≡ p → (l : Looked) → lookInto (s .w) (blockAt s i) u n ≡ l → Told (blockAt s i) n l → Left s (after s i rest l)
   after-left s i rest ih f len h e (Found unit) z q = left-here s f len (At i unit) (h, e, q, z)
   after-left s i rest ih f len h e (Missed c) z (inl same) = moved s i c rest ih f len h (subst (λ (b : Block). Same b (blockAt s i)) (sym same) (same-refl (blockAt s i)))
-      (subst (SoundIn s) (sym same) (f .sound i h))
+      (subst (ShapedBlockIn s) (sym same) (f .sound i h))
   after-left s i rest ih f len h e (Missed c) z (inr q) = moved s i c rest ih f len h
       (subst (λ (b : Block). Same b (blockAt s i)) (sym (q .3)) (tight-same (blockAt s i) (q .0) (q .1) (q .2)))
-      (subst (SoundIn s) (sym (q .3)) (tight-sound s (blockAt s i) (q .0) (q .1) (q .2) (f .sound i h) (q .4) (q .5) (q .6)))
+      (subst (ShapedBlockIn s) (sym (q .3)) (tight-sound s (blockAt s i) (q .0) (q .1) (q .2) (f .sound i h) (q .4) (q .5) (q .6)))
 
   from-left : (i k : ℕ) (s : State) → i + k ≡ s .count → Shaped s (length u) t → length (s .blocks) ≡ 64 → Left s (searchFrom u p n i k s)
   unfolding searchFrom

@@ -16,7 +16,7 @@ use Rattle.machine.specs.Alloc.{after, searchFrom, searchPool}
 
 -- r is s with other blocks
 abbrev pub OtherBlocks : State → State → Type 0
-OtherBlocks s r = r ≡ withTable s (s .count) (r .blocks) (s .order) (s .pool)
+OtherBlocks s r = r ≡ withTable s (s .count) (r .blocks) (s .order) (s .pools)
 
 after-other : (s : State) (i : ℕ) (rest : State → Searched) → ((r : State) → OtherBlocks r (rest r .state)) → (l : Looked) → OtherBlocks s (after s i rest l .state)
 after-other s i rest ih (found unit) = refl

@@ -8,7 +8,7 @@ use Rattle.block.specs.Record.{Placed}
 use Rattle.state.specs.declared.State.{State}
 use Rattle.state.specs.Table.{blockAt, poolAt, one}
 use Rattle.state.specs.Shape.{isEmpty}
-use Rattle.table.specs.Ready.{Enters, Leaves}
+use Rattle.table.specs.Changeable.{Insertable, Removable}
 use Rattle.shape.specs.Shaped.{Shaped}
 use Rattle.machine.specs.Turn.{unitOf}
 
@@ -30,9 +30,9 @@ pub record Markable (s : State) (usedWords stopWords j i n : ℕ) : Type 0 where
 -- ---- before a block is made for a span
 -- a new block b enters the table, and its slot is one of those in force
 pub record Makeable (s : State) (usedWords stopWords : ℕ) (b : Block) (n : ℕ) : Type 0 where
-  pub enters : Enters s b
+  pub enters : Insertable s b
   pub size : length (s .blocks) ≡ 64
-  pub pools : length (s .pool) ≡ 3
+  pub pools : length (s .pools) ≡ 3
   pub placed : Placed b (s .w) usedWords stopWords
   pub some : 0 < n
   pub fits : n ≤ b .area
@@ -58,12 +58,12 @@ pub record Allocates (s : State) (usedWords stopWords bytes : ℕ) : Type 0 wher
   pub shaped : Shaped s usedWords stopWords
   pub some : 0 < bytes
   pub most : bytes ≤ 2147483647
-  pub even : bytes % s .g ≡ 0
+  pub even : bytes % s .granularity ≡ 0
 
 -- ---- before a block settles
 -- the block may leave the table, and its slot lies within both maps
 pub record Settles (s : State) (j usedWords stopWords : ℕ) : Type 0 where
-  pub leaves : Leaves s j
+  pub leaves : Removable s j
   pub words : s .w < 2 ^ 32
   pub room : (blockAt s j .slot + 1) * s .w ≤ usedWords
   pub stop-room : (blockAt s j .slot + 1) * s .w ≤ stopWords

@@ -39,10 +39,10 @@ module _ (s : State) (z : Sized s) (j : ℕ) (b : Block) (h : j < 64) where
 -- ---- a pool's record is replaced: blocks, ages and counts of the state stay, by computing
 module _ (s : State) (z : Sized s) (p : ℕ) (q : Pool) where
   pub put-pool : p < 3 → poolAt (putPool s p q) p ≡ q
-  put-pool h = getD-set-same (s .pool) p q (freshPool 0) (omega (arith, z .pools))
+  put-pool h = getD-set-same (s .pools) p q (freshPool 0) (omega (arith, z .pools))
 
   pub put-pool-other : (o : ℕ) → (o ≡ p → ⊥) → poolAt (putPool s p q) o ≡ poolAt s o
-  put-pool-other o ne = getD-set-other (s .pool) p o q (freshPool 0) ne
+  put-pool-other o ne = getD-set-other (s .pools) p o q (freshPool 0) ne
 
 -- ---- n units of block j, whose record becomes b, are no longer used
 module _ (s : State) (z : Sized s) (j : ℕ) (b : Block) (n : ℕ) (h : j < 64) where
@@ -75,10 +75,10 @@ module _ (s : State) (z : Sized s) (b : Block) where
       getD-listFrom 0 64 (movedUp (s .order) (placeOf s b) (s .count)) 0 k l ∙ ap (movedUp (s .order) (placeOf s b) (s .count)) (zero-add k)
 
   pub inserted-pool : b .pool < 3 → poolAt (inserted s b) (b .pool) ≡ withBlocks (poolAt s (b .pool)) (poolAt s (b .pool) .blocks + 1) (poolAt s (b .pool) .area + b .area)
-  inserted-pool l = getD-set-same (s .pool) (b .pool) _ (freshPool 0) (omega (arith, z .pools))
+  inserted-pool l = getD-set-same (s .pools) (b .pool) _ (freshPool 0) (omega (arith, z .pools))
 
   pub inserted-pool-other : (o : ℕ) → (o ≡ b .pool → ⊥) → poolAt (inserted s b) o ≡ poolAt s o
-  inserted-pool-other o ne = getD-set-other (s .pool) (b .pool) o _ (freshPool 0) ne
+  inserted-pool-other o ne = getD-set-other (s .pools) (b .pool) o _ (freshPool 0) ne
 
   pub inserted-used : s .count < 64 → usedSum (inserted s b) (s .count + 1) ≡ usedSum s (s .count) + b .used
   inserted-used h =
@@ -102,10 +102,10 @@ module _ (s : State) (z : Sized s) (j : ℕ) where
 
   pub removed-pool : blockAt s j .pool < 3 → poolAt (removed s j) (blockAt s j .pool)
       ≡ withBlocks (poolAt s (blockAt s j .pool)) (poolAt s (blockAt s j .pool) .blocks - 1) (poolAt s (blockAt s j .pool) .area - blockAt s j .area)
-  removed-pool l = getD-set-same (s .pool) (blockAt s j .pool) _ (freshPool 0) (omega (arith, z .pools))
+  removed-pool l = getD-set-same (s .pools) (blockAt s j .pool) _ (freshPool 0) (omega (arith, z .pools))
 
   pub removed-pool-other : (o : ℕ) → (o ≡ blockAt s j .pool → ⊥) → poolAt (removed s j) o ≡ poolAt s o
-  removed-pool-other o ne = getD-set-other (s .pool) (blockAt s j .pool) o _ (freshPool 0) ne
+  removed-pool-other o ne = getD-set-other (s .pools) (blockAt s j .pool) o _ (freshPool 0) ne
 
   pub removed-used : j < s .count → s .count ≤ 64 → usedSum (removed s j) (s .count - 1) + blockAt s j .used ≡ usedSum s (s .count)
   removed-used h few =
@@ -121,8 +121,8 @@ module _ (s : State) where
   pub empty-age : (k : ℕ) → ageAt (emptyTable s) k ≡ 0
   empty-age k = getD-replicate 64 0 k
 
-  pub empty-pool : (p : ℕ) → p < 3 → poolAt (emptyTable s) p ≡ freshPool (s .g)
-  empty-pool p h = getD-replicate-in 3 p (freshPool (s .g)) (freshPool 0) h
+  pub empty-pool : (p : ℕ) → p < 3 → poolAt (emptyTable s) p ≡ freshPool (s .granularity)
+  empty-pool p h = getD-replicate-in 3 p (freshPool (s .granularity)) (freshPool 0) h
 
   pub empty-used : usedSum (emptyTable s) 0 ≡ 0
   unfolding sum

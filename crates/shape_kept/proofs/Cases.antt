@@ -10,7 +10,7 @@ use lib.ListN.{length}
 use Rattle.numbers.specs.Pick.{pick}
 use Rattle.numbers.specs.Units.{unitsOf, bytesOf}
 use Rattle.sizes.specs.declared.Rounded.{Rounded}
-use Rattle.sizes.specs.declared.Rounded.the-variants.{To, Refused as tooBad}
+use Rattle.sizes.specs.declared.Rounded.the-variants.{To, Refused as unroundable}
 use Rattle.sizes.specs.Pools.{poolOf}
 use Rattle.sizes.specs.Sizes.{rounded, idealSize}
 use Rattle.sizes.proofs.Cases.{picked}
@@ -35,10 +35,10 @@ use Rattle.state.specs.Find.{lookup, lowestPlace, lowestSlot, newestSize}
 use Rattle.shape_facts.proofs.Searched.{search-other}
 use Rattle.machine.specs.Turn.{Turn, turn, refuse, span, putPool, withCounts, unitOf, clearSlot}
 use Rattle.machine.specs.Create.{Asked, slotsOf, grantable, granted, createTurn}
-use Rattle.machine.specs.Alloc.{searchPool, markTurn, makeTurn, placeTurn, searchedTurn, sizeTurn, allocTurn}
-use Rattle.machine.specs.Span.{heldIn, shownTurn, queriedTurn, queryTurn}
-use Rattle.machine.specs.Release.{settle, freeTurn, releasedTurn, givenBackTurn, releaseTurn}
-use Rattle.machine.specs.Shrink.{cutTurn, unitsTurn, shrunkTurn, cutDownTurn, shrinkTurn}
+use Rattle.machine.specs.Alloc.{searchPool, allocMarked, allocMade, allocPlaced, allocSearched, allocRounded, allocTurn}
+use Rattle.machine.specs.Span.{heldIn, queryHeld, queryFound, queryTurn}
+use Rattle.machine.specs.Release.{settle, releaseUnits, releaseHeld, releaseFound, releaseTurn}
+use Rattle.machine.specs.Shrink.{shrinkTail, shrinkUnits, shrinkHeld, shrinkFound, shrinkTurn}
 use Rattle.machine.specs.Reset.{emptyTable, clearBlocks, kept, resetTurn}
 use Rattle.machine.specs.Machine.{orBefore}
 
@@ -50,7 +50,7 @@ pub record Holds (s : State) (u t : List ℕ) (a j i e : ℕ) : Type 0 where
   pub held : heldIn s u t a j ≡ Units i e
 
 -- the call released it
-pub record Frees (s : State) (u t : List ℕ) (a j i e : ℕ) : Type 0 where
+pub record FreesSpan (s : State) (u t : List ℕ) (a j i e : ℕ) : Type 0 where
   pub holds : Holds s u t a j i e
   pub counted : e - i ≤ blockAt s j .used
   pub some : 0 < s .live
@@ -66,10 +66,10 @@ pub record Cuts (s : State) (u t : List ℕ) (a size j i e n : ℕ) : Type 0 whe
 -- a request of so many bytes, once rounded
 pub record Seeks (s : State) (u t : List ℕ) (size bytes : ℕ) : Type 0 where
   pub good : goodShape s (length u) (length t) ≡ true
-  pub is : rounded size (s .g) ≡ To bytes
+  pub is : rounded size (s .granularity) ≡ To bytes
 
 abbrev pub poolFor : State → ℕ → ℕ
-poolFor s bytes = poolOf bytes (s .g) (s .pools)
+poolFor s bytes = poolOf bytes (s .granularity) (s .poolcount)
 
 abbrev pub unitsFor : State → ℕ → ℕ
 unitsFor s bytes = unitsOf bytes (poolAt s (poolFor s bytes) .granularity)
@@ -147,67 +147,67 @@ module _ (P : Turn → Type 0) (s : State) (u t : List ℕ) where
 
       pub query-cases : ((j i e : ℕ) → Holds s u t a j i e → P (shown j i e)) → P (queryTurn s u t a)
       unfolding queryTurn
-      query-cases does = shaped (queriedTurn s u t a (lookup s a)) (λ good. at good (lookup s a) refl)
+      query-cases does = shaped (queryFound s u t a (lookup s a)) (λ good. at good (lookup s a) refl)
         where
-          held : goodShape s (length u) (length t) ≡ true → (j : ℕ) → slotAt j ≡ lookup s a → (h : Held) → heldIn s u t a j ≡ h → P (shownTurn s u t a j h)
+          held : goodShape s (length u) (length t) ≡ true → (j : ℕ) → slotAt j ≡ lookup s a → (h : Held) → heldIn s u t a j ≡ h → P (queryHeld s u t a j h)
           held good j f NoSpan z = refused InvalidArgument
           held good j f NoStop z = refused Damaged
           held good j f (Units i e) z = does j i e (record { good = good; found = f; held = z })
 
-          at : goodShape s (length u) (length t) ≡ true → (f : Found) → lookup s a ≡ f → P (queriedTurn s u t a f)
+          at : goodShape s (length u) (length t) ≡ true → (f : Found) → lookup s a ≡ f → P (queryFound s u t a f)
           at good Nothing z = refused InvalidArgument
           at good (slotAt j) z = held good j (sym z) (heldIn s u t a j) refl
 
       -- ---- release
-      pub release-cases : ((j i e : ℕ) → Frees s u t a j i e → P (freeTurn s u t a j i e)) → P (releaseTurn s u t a)
+      pub release-cases : ((j i e : ℕ) → FreesSpan s u t a j i e → P (releaseUnits s u t a j i e)) → P (releaseTurn s u t a)
       unfolding releaseTurn
       release-cases does =
-          shaped (pick (eqb a 0) (refuse InvalidArgument s u t) (givenBackTurn s u t a (lookup s a)))
-          (λ good. picked P (eqb a 0) (refuse InvalidArgument s u t) (givenBackTurn s u t a (lookup s a)) (λ e. refused InvalidArgument) (λ e. at good (lookup s a) refl))
+          shaped (pick (eqb a 0) (refuse InvalidArgument s u t) (releaseFound s u t a (lookup s a)))
+          (λ good. picked P (eqb a 0) (refuse InvalidArgument s u t) (releaseFound s u t a (lookup s a)) (λ e. refused InvalidArgument) (λ e. at good (lookup s a) refl))
         where
-          held : goodShape s (length u) (length t) ≡ true → (j : ℕ) → slotAt j ≡ lookup s a → (h : Held) → heldIn s u t a j ≡ h → P (releasedTurn s u t a j h)
+          held : goodShape s (length u) (length t) ≡ true → (j : ℕ) → slotAt j ≡ lookup s a → (h : Held) → heldIn s u t a j ≡ h → P (releaseHeld s u t a j h)
           held good j f NoSpan z = refused InvalidArgument
           held good j f NoStop z = refused Damaged
           held good j f (Units i e) z =
-              picked P (ltb (blockAt s j .used) (e - i) || eqb (s .live) 0) (refuse Damaged s u t) (freeTurn s u t a j i e) (λ c. refused Damaged)
+              picked P (ltb (blockAt s j .used) (e - i) || eqb (s .live) 0) (refuse Damaged s u t) (releaseUnits s u t a j i e) (λ c. refused Damaged)
               (λ c. does j i e (record {
                 holds = record { good = good; found = f; held = z };
                 counted = ltb-false (blockAt s j .used) (e - i) (or-false-left (ltb (blockAt s j .used) (e - i)) (eqb (s .live) 0) c);
                 some = omega (arith, eqb-false (s .live) 0 (or-false-right (ltb (blockAt s j .used) (e - i)) (eqb (s .live) 0) c));
               }))
 
-          at : goodShape s (length u) (length t) ≡ true → (f : Found) → lookup s a ≡ f → P (givenBackTurn s u t a f)
+          at : goodShape s (length u) (length t) ≡ true → (f : Found) → lookup s a ≡ f → P (releaseFound s u t a f)
           at good Nothing z = refused InvalidState
           at good (slotAt j) z = held good j (sym z) (heldIn s u t a j) refl
 
       -- ---- shrink
       pub shrink-cases : (size : ℕ) → P (releaseTurn s u t a)
           → ((j i e n : ℕ) → Holds s u t a j i e → n ≡ e - i → P (turn (Shrunk (span a (bytesOf n (unitOf s (blockAt s j))))) s u t))
-          → ((j i e n : ℕ) → Cuts s u t a size j i e n → P (cutTurn s u t a j i e n))
+          → ((j i e n : ℕ) → Cuts s u t a size j i e n → P (shrinkTail s u t a j i e n))
           → P (shrinkTurn s u t a size)
       unfolding shrinkTurn
       shrink-cases size none same does =
           picked P (eqb size 0) (releaseTurn s u t a) _ (λ e. none)
           (λ e.
-          shaped (pick (eqb a 0) (refuse InvalidArgument s u t) (cutDownTurn s u t a size (lookup s a)))
-          (λ good. picked P (eqb a 0) (refuse InvalidArgument s u t) (cutDownTurn s u t a size (lookup s a)) (λ c. refused InvalidArgument)
+          shaped (pick (eqb a 0) (refuse InvalidArgument s u t) (shrinkFound s u t a size (lookup s a)))
+          (λ good. picked P (eqb a 0) (refuse InvalidArgument s u t) (shrinkFound s u t a size (lookup s a)) (λ c. refused InvalidArgument)
           (λ c. at (eqb-false size 0 e) good (lookup s a) refl)))
         where
           fewer : (n m : ℕ) → ltb m n ≡ false → eqb n m ≡ false → n < m
           fewer n m p q = omega (arith, ltb-false m n p, eqb-false n m q)
 
           held : (size ≡ 0 → ⊥) → goodShape s (length u) (length t) ≡ true → (j : ℕ) → slotAt j ≡ lookup s a → (h : Held) → heldIn s u t a j ≡ h
-              → P (shrunkTurn s u t a size j h)
+              → P (shrinkHeld s u t a size j h)
           held ne good j f NoSpan z = refused InvalidArgument
           held ne good j f NoStop z = refused Damaged
           held ne good j f (Units i e) z =
               let n = unitsOf size (unitOf s (blockAt s j)) in
               let h : Holds s u t a j i e = record { good = good; found = f; held = z } in
-              picked P (ltb (blockAt s j .used) (e - i)) (refuse Damaged s u t) (unitsTurn s u t a j i e n) (λ c. refused Damaged)
+              picked P (ltb (blockAt s j .used) (e - i)) (refuse Damaged s u t) (shrinkUnits s u t a j i e n) (λ c. refused Damaged)
               (λ c.
               picked P (ltb (e - i) n) (refuse InvalidState s u t) _ (λ p. refused InvalidState)
               (λ p.
-              picked P (eqb n (e - i)) (turn (Shrunk (span a (bytesOf n (unitOf s (blockAt s j))))) s u t) (cutTurn s u t a j i e n) (λ q. same j i e n h (eqb-true n (e - i) q))
+              picked P (eqb n (e - i)) (turn (Shrunk (span a (bytesOf n (unitOf s (blockAt s j))))) s u t) (shrinkTail s u t a j i e n) (λ q. same j i e n h (eqb-true n (e - i) q))
               (λ q. does j i e n (record {
                 holds = h;
                 counted = ltb-false (blockAt s j .used) (e - i) c;
@@ -216,7 +216,7 @@ module _ (P : Turn → Type 0) (s : State) (u t : List ℕ) where
                 less = fewer n (e - i) p q;
               }))))
 
-          at : (size ≡ 0 → ⊥) → goodShape s (length u) (length t) ≡ true → (f : Found) → lookup s a ≡ f → P (cutDownTurn s u t a size f)
+          at : (size ≡ 0 → ⊥) → goodShape s (length u) (length t) ≡ true → (f : Found) → lookup s a ≡ f → P (shrinkFound s u t a size f)
           at ne good Nothing z = refused InvalidArgument
           at ne good (slotAt j) z = held ne good j (sym z) (heldIn s u t a j) refl
 
@@ -234,31 +234,31 @@ module _ (P : Turn → Type 0) (s : State) (u t : List ℕ) where
     -- ---- alloc
     module _ (size : ℕ)
         (full : (bytes : ℕ) → Seeks s u t size bytes → P (refuse NoMapping (searchFor s u bytes .state) u t))
-        (hit : (bytes j i : ℕ) → Seeks s u t size bytes → searchFor s u bytes .hit ≡ At j i → P (markTurn (searchFor s u bytes .state) u t j i (unitsFor s bytes)))
+        (hit : (bytes j i : ℕ) → Seeks s u t size bytes → searchFor s u bytes .hit ≡ At j i → P (allocMarked (searchFor s u bytes .state) u t j i (unitsFor s bytes)))
         (make : (bytes at slot : ℕ) → Seeks s u t size bytes → Places (searchFor s u bytes .state) (poolFor s bytes) bytes at slot
-        → P (makeTurn (searchFor s u bytes .state) u t (poolFor s bytes) (unitsFor s bytes) (newSize (searchFor s u bytes .state) (poolFor s bytes) bytes) at slot)) where
+        → P (allocMade (searchFor s u bytes .state) u t (poolFor s bytes) (unitsFor s bytes) (newSize (searchFor s u bytes .state) (poolFor s bytes) bytes) at slot)) where
       placed : (bytes : ℕ) → Seeks s u t size bytes → (x : Place) (f : Found)
           → x ≡ lowestPlace (searchFor s u bytes .state) (newSize (searchFor s u bytes .state) (poolFor s bytes) bytes) → f ≡ lowestSlot (searchFor s u bytes .state)
-          → P (placeTurn (searchFor s u bytes .state) u t (poolFor s bytes) (unitsFor s bytes) (newSize (searchFor s u bytes .state) (poolFor s bytes) bytes) x f)
+          → P (allocPlaced (searchFor s u bytes .state) u t (poolFor s bytes) (unitsFor s bytes) (newSize (searchFor s u bytes .state) (poolFor s bytes) bytes) x f)
       placed bytes k (Address at) (slotAt slot) ex ef =
           let r = searchFor s u bytes .state in
           let p = poolFor s bytes in
           let n = newSize r p bytes in
           let words = unitsOf (unitsOf n (poolAt r p .granularity)) 32 in
-          picked P (leb words (r .w)) (makeTurn r u t p (unitsFor s bytes) n at slot) (refuse NoMapping r u t)
+          picked P (leb words (r .w)) (allocMade r u t p (unitsFor s bytes) n at slot) (refuse NoMapping r u t)
           (λ e. make bytes at slot k (record { place = ex; free = ef; words = leb-true words (r .w) e })) (λ e. full bytes k)
       placed bytes k (Address at) Nothing ex ef = full bytes k
       placed bytes k noPlace f ex ef = full bytes k
 
       searched : (bytes : ℕ) → Seeks s u t size bytes → (h : Hit) → searchFor s u bytes .hit ≡ h
-          → P (searchedTurn (searchFor s u bytes .state) u t (poolFor s bytes) (unitsFor s bytes) bytes h)
+          → P (allocSearched (searchFor s u bytes .state) u t (poolFor s bytes) (unitsFor s bytes) bytes h)
       searched bytes k (At j i) e = hit bytes j i k e
       searched bytes k Nowhere e = placed bytes k _ _ refl refl
 
-      known : goodShape s (length u) (length t) ≡ true → (x : Rounded) → rounded size (s .g) ≡ x → P (sizeTurn s u t x)
+      known : goodShape s (length u) (length t) ≡ true → (x : Rounded) → rounded size (s .granularity) ≡ x → P (allocRounded s u t x)
       known good (To bytes) e = searched bytes (record { good = good; is = e }) (searchFor s u bytes .hit) refl
-      known good (tooBad k) e = refused (pick (eqb k 1) InvalidArgument TooLarge)
+      known good (unroundable k) e = refused (pick (eqb k 1) InvalidArgument TooLarge)
 
       pub alloc-cases : P (allocTurn s u t size)
       unfolding allocTurn
-      alloc-cases = shaped (sizeTurn s u t (rounded size (s .g))) (λ good. known good (rounded size (s .g)) refl)
+      alloc-cases = shaped (allocRounded s u t (rounded size (s .granularity))) (λ good. known good (rounded size (s .granularity)) refl)

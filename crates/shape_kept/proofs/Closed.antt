@@ -27,9 +27,9 @@ use Rattle.shape_facts.proofs.Facts.{count-64, unit-g, pool-3, found-in, held-i
 use Rattle.shape_facts.proofs.Search.{Place}
 use Rattle.shape_facts.proofs.Pool.{whole, units-kept}
 use Rattle.machine.specs.Turn.{Turn, withLive, unitOf}
-use Rattle.machine.specs.Alloc.{markTurn, makeTurn}
-use Rattle.machine.specs.Release.{lessUsed, freeTurn}
-use Rattle.machine.specs.Shrink.{cutTurn}
+use Rattle.machine.specs.Alloc.{allocMarked, allocMade}
+use Rattle.machine.specs.Release.{lessUsed, releaseUnits}
+use Rattle.machine.specs.Shrink.{shrinkTail}
 use Rattle.machine.specs.Reset.{resetTurn}
 use Rattle.machine.specs.Create.{Asked, slotsOf, grantable, freshState}
 use Rattle.machine.specs.Machine.{Call, create, alloc, release, shrink, query, softReset, hardReset, step}
@@ -37,7 +37,7 @@ use Rattle.shape_kept.specs.Sized.{Sized}
 use Rattle.shape_kept.specs.Closed.{Good, Frees, Freed, LiveAbove, Closed}
 use Rattle.shape_kept.proofs.After.{less-block}
 use Rattle.shape_kept.proofs.Head.{good-same}
-use Rattle.shape_kept.proofs.Cases.{Frees as FreesSpan, Cuts, Seeks, Places, poolFor, unitsFor, searchFor, newSize, settle-cases, create-cases, query-cases, release-cases, shrink-cases, reset-cases, alloc-cases}
+use Rattle.shape_kept.proofs.Cases.{FreesSpan, Cuts, Seeks, Places, poolFor, unitsFor, searchFor, newSize, settle-cases, create-cases, query-cases, release-cases, shrink-cases, reset-cases, alloc-cases}
 use Rattle.shape_kept.proofs.Sized.{sized-search}
 use Rattle.shape_kept.proofs.Words.{created-long, words-kept}
 use Rattle.shape_kept.proofs.Request.{seeks-ready, seeks-some, seeks-left}
@@ -75,26 +75,26 @@ module _ (s : State) (u t : List ℕ) (z : Sized s) (size bytes : ℕ) (k : Seek
   full : goodShape r (length u) (length t) ≡ true
   full = enough-good r (length u) (length t) (shaped-enough r (length u) (length t) shaped)
 
-  hit : (j i : ℕ) → searchFor s u bytes .hit ≡ At j i → Keeps u t (markTurn r u t j i (unitsFor s bytes))
+  hit : (j i : ℕ) → searchFor s u bytes .hit ≡ At j i → Keeps u t (allocMarked r u t j i (unitsFor s bytes))
   hit j i e =
       let some = seeks-some s u t size bytes k in
       let p = subst (Place u (length t) (poolFor s bytes) (unitsFor s bytes) some r) e (seeks-left s u t size bytes k z .place) in
       mark-good r (length u) (length t) shaped sized j i (unitsFor s bytes) (p .0) some (p .2) u t
 
-  make : (at slot : ℕ) → Places r (poolFor s bytes) bytes at slot → Keeps u t (makeTurn r u t (poolFor s bytes) (unitsFor s bytes) (newSize r (poolFor s bytes) bytes) at slot)
+  make : (at slot : ℕ) → Places r (poolFor s bytes) bytes at slot → Keeps u t (allocMade r u t (poolFor s bytes) (unitsFor s bytes) (newSize r (poolFor s bytes) bytes) at slot)
   make at slot m =
       let p = poolFor s bytes in
       let n = unitsFor s bytes in
       let a = seeks-ready s u t size bytes k in
-      let same : r .pools ≡ s .pools = ap (λ (x : State). x .pools) (search-other s u p n) in
-      let list : r .pool ≡ s .pool = seeks-left s u t size bytes k z .pools in
+      let same : r .poolcount ≡ s .poolcount = ap (λ (x : State). x .poolcount) (search-other s u p n) in
+      let list : r .pools ≡ s .pools = seeks-left s u t size bytes k z .pools in
       make-good r (length u) (length t) shaped sized p n bytes at slot
-      (omega (arith, same, pool-below bytes (s .g) (s .pools) (a .shaped .head .pools-listed))) (seeks-some s u t size bytes k)
+      (omega (arith, same, pool-below bytes (s .granularity) (s .poolcount) (a .shaped .head .pools-listed))) (seeks-some s u t size bytes k)
       (a .some) (a .most) (units-kept s r list p p n n bytes refl refl (whole s (length u) (length t) bytes a)) m u t
 
 module _ (s : State) (u t : List ℕ) (z : Sized s) where
   -- ---- release
-  freed : (a j i e : ℕ) → FreesSpan s u t a j i e → KeepsIf u t (freeTurn s u t a j i e)
+  freed : (a j i e : ℕ) → FreesSpan s u t a j i e → KeepsIf u t (releaseUnits s u t a j i e)
   freed a j i e k =
       let f = shaped-is s (length u) (length t) (k .holds .good) in
       let h = found-in s a j (k .holds .found) .0 in
@@ -126,7 +126,7 @@ module _ (s : State) (u t : List ℕ) (z : Sized s) where
       }
 
   -- ---- shrink
-  cut : (a size j i e n : ℕ) → Cuts s u t a size j i e n → KeepsIf u t (cutTurn s u t a j i e n)
+  cut : (a size j i e n : ℕ) → Cuts s u t a size j i e n → KeepsIf u t (shrinkTail s u t a j i e n)
   cut a size j i e n k =
       let f = shaped-is s (length u) (length t) (k .holds .good) in
       let h = found-in s a j (k .holds .found) .0 in
@@ -167,17 +167,17 @@ module _ (s : State) (u t : List ℕ) (z : Sized s) where
         let r = x .state in
         by-test (liveOk r) (λ e. inl (f e)) (λ e. inr (granted, leb-false (r .live) (sum (r .count) (λ i. blockAt r i .used)) e))
 
-    granted-free : (a j i e : ℕ) → Freed (freeTurn s u t a j i e .answer)
+    granted-free : (a j i e : ℕ) → Freed (releaseUnits s u t a j i e .answer)
     granted-free a j i e =
         settle-cases (λ x. Freed (x .answer)) (withLive (lessUsed s j (released (blockAt s j) i e) (e - i)) (s .live - 1)) _ _ _ j
         (λ ne. tt) (λ none goes. tt) (λ none kept off. tt)
 
     release-either : (a : ℕ) → Either (step s u t (release a))
-    release-either a = release-cases Either s u t (λ why. inl good) a (λ j i e k. decide (freeTurn s u t a j i e) (granted-free a j i e) (freed a j i e k))
+    release-either a = release-cases Either s u t (λ why. inl good) a (λ j i e k. decide (releaseUnits s u t a j i e) (granted-free a j i e) (freed a j i e k))
 
     shrink-either : (a size : ℕ) → Either (step s u t (shrink a size))
     shrink-either a size =
-        shrink-cases Either s u t (λ why. inl good) a size (release-either a) (λ j i e n k same. inl good) (λ j i e n k. decide (cutTurn s u t a j i e n) tt (cut a size j i e n k))
+        shrink-cases Either s u t (λ why. inl good) a size (release-either a) (λ j i e n k same. inl good) (λ j i e n k. decide (shrinkTail s u t a j i e n) tt (cut a size j i e n k))
 
     -- with the words as they are afterwards
     as-left : (c : Call) → Keeps u t (step s u t c) → Good (step s u t c)

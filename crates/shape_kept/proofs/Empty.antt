@@ -60,7 +60,7 @@ module _ (a : Asked) (u t : ℕ) (granted : grantable a u t ≡ true) where
   numbers : numbersOk made ≡ true
   numbers =
       and-both _ _ (base-size-in-force-good (a .size))
-      (and-both _ _ (granularity-in-force-good (a .g))
+      (and-both _ _ (granularity-in-force-good (a .granularity))
       (and-both _ _ (picked (λ (n : ℕ). eqb n 1 || eqb n 3 ≡ true) (eqb (a .flags % 2) 0) 1 3 (λ e. refl) (λ e. refl))
       (and-both _ _ (every-at tests 0 granted)
       (and-both _ _ (every-at tests 1 granted)

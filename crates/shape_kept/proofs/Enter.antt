@@ -24,9 +24,9 @@ use Rattle.state.proofs.Tests.{sum-same, sum-more}
 use Rattle.state.proofs.Find.{Least, least-of}
 use Rattle.table.proofs.Shift.{moved-below, moved-here, moved-above}
 use Rattle.shape.specs.Parts.{poolSum}
-use Rattle.shape.specs.Facts.{SoundIn}
+use Rattle.shape.specs.Facts.{ShapedBlockIn}
 use Rattle.shape.specs.Shaped.{Shaped}
-use Rattle.shape.proofs.Sound.{sized}
+use Rattle.shape.proofs.OneBlock.{sized}
 use Rattle.shape.proofs.Enough.{enough-good}
 use Rattle.shape_kept.proofs.Head.{head-kept, lent-kept}
 use Rattle.shape_kept.proofs.Pools.{blocksIn, emptyIn, areaIn, usedIn, adds, nothing, Entered, entered, pool-after, empties-after, few-after}
@@ -59,7 +59,7 @@ module _ (s : State) (u t : ℕ) (f : Shaped s u t) (b : Block) (live : ℕ) (bl
     (room : s .count < s .slots)
     (old : (i : ℕ) → (i ≡ s .count → ⊥) → getD blocks i zeroBlock ≡ blockAt s i) (new : getD blocks (s .count) zeroBlock ≡ b)
     (ages : (k : ℕ) → k < 64 → getD order k 0 ≡ movedUp (s .order) (placeOf s b) (s .count) k)
-    (sound : SoundIn s b)
+    (sound : ShapedBlockIn s b)
     (slot : (i : ℕ) → i < s .count → blockAt s i .slot ≡ b .slot → ⊥)
     (bytes : (i : ℕ) → i < s .count → (b .base + b .size ≤ blockAt s i .base) ⊎ (blockAt s i .base + blockAt s i .size ≤ b .base))
     (own : Entered (poolAt s (b .pool)) (getD pool (b .pool) (freshPool 0)) b)
@@ -78,11 +78,11 @@ module _ (s : State) (u t : ℕ) (f : Shaped s u t) (b : Block) (live : ℕ) (bl
   count-low = omega (arith, room, f .head .slots-high)
 
   -- ---- the blocks
-  block-sound : (i : ℕ) → i < s .count + 1 → SoundIn s (getD blocks i zeroBlock)
+  block-sound : (i : ℕ) → i < s .count + 1 → ShapedBlockIn s (getD blocks i zeroBlock)
   block-sound i l =
       by-eq i (s .count)
-      (λ e. subst (λ (k : ℕ). SoundIn s (getD blocks k zeroBlock)) (sym e) (subst (SoundIn s) (sym new) sound))
-      (λ ne. subst (SoundIn s) (sym (old i ne)) (f .sound i (omega (arith, ne))))
+      (λ e. subst (λ (k : ℕ). ShapedBlockIn s (getD blocks k zeroBlock)) (sym e) (subst (ShapedBlockIn s) (sym new) sound))
+      (λ ne. subst (ShapedBlockIn s) (sym (old i ne)) (f .sound i (omega (arith, ne))))
 
   apart : (i k : ℕ) → i < k → k < s .count + 1 → getD blocks i zeroBlock .slot ≡ getD blocks k zeroBlock .slot → ⊥
   apart i k l n e =

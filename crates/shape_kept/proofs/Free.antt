@@ -56,7 +56,7 @@ module _ (s : State) (v w : ℕ) (f : Shaped s v w) (z : Sized s) (j : ℕ) (h :
   -- ---- the block stays in use
   pub less-good : Changed s b c (b .used - n) false → liveOk after ≡ true → goodShape after v w ≡ true
   less-good k enough =
-      put-good s v w f j h c live (set (s .blocks) j c) (set (s .pool) p less) (less-block s z j c n low) (less-block-other s z j c n low) (k .lies) (k .sound)
+      put-good s v w f j h c live (set (s .blocks) j c) (set (s .pools) p less) (less-block s z j c n low) (less-block-other s z j c n low) (k .lies) (k .sound)
       (subst (λ (x : Pool). Recounted (poolAt s p) x b c) (sym (less-pool s z j c n low p-low)) recount)
       (less-pool-other s z j c n low)
       (subst (λ (x : Pool). x .empty ≤ pick (s .immediate) 0 1) (sym (less-pool s z j c n low p-low)) (empties-before s v w f p p-low))
@@ -92,7 +92,7 @@ module _ (s : State) (v w : ℕ) (f : Shaped s v w) (z : Sized s) (j : ℕ) (h :
     pub kept-good : poolAt after (blockAt after j .pool) .empty ≡ 0 → s .immediate ≡ false
         → liveOk (putPool after (blockAt after j .pool) one-empty) ≡ true → goodShape (putPool after (blockAt after j .pool) one-empty) v w ≡ true
     kept-good none off enough =
-        put-good s v w f j h c live (set (s .blocks) j c) (set (set (s .pool) p less) (blockAt after j .pool) one-empty) now-block
+        put-good s v w f j h c live (set (s .blocks) j c) (set (set (s .pools) p less) (blockAt after j .pool) one-empty) now-block
         (less-block-other s z j c n low) (k .lies) (k .sound)
         (subst (λ (x : Pool). Recounted (poolAt s p) x b c) (sym own) recount)
         (λ o ne. put-pool-other after now-sized (blockAt after j .pool) one-empty o (λ e. ne (e ∙ now-of)) ∙ less-pool-other s z j c n low o ne)
@@ -116,7 +116,7 @@ module _ (s : State) (v w : ℕ) (f : Shaped s v w) (z : Sized s) (j : ℕ) (h :
     -- or it goes
     pub gone-good : liveOk (removed after j) ≡ true → goodShape (removed after j) v w ≡ true
     gone-good enough =
-        leave-good s v w f z j h live (removed after j .blocks) (removed after j .order) (removed after j .pool)
+        leave-good s v w f z j h live (removed after j .blocks) (removed after j .order) (removed after j .pools)
         (λ i l. removed-block after now-sized j i l ∙ less-block-other s z j c n low (past j i) (past-ne j i))
         (removed-age after now-sized j)
         (record {

@@ -16,7 +16,7 @@ use Rattle.state.specs.Table.{blockAt, poolAt, one}
 use Rattle.state.specs.Shape.{isEmpty, inPool, goodShape}
 use Rattle.state.specs.Change.{withRest, withBlocks, inserted}
 use Rattle.state.proofs.Tests.{all-at}
-use Rattle.shape.specs.Facts.{SoundIn}
+use Rattle.shape.specs.Facts.{ShapedBlockIn}
 use Rattle.shape.specs.Shaped.{Shaped}
 use Rattle.shape.proofs.Shaped.{shaped-is}
 use Rattle.shape.proofs.Pigeon.{sum-none}
@@ -34,10 +34,10 @@ use Rattle.shape_kept.proofs.Empty.{empty-good}
 
 -- ---- creation's numbers stay, and nothing is live
 abbrev pub OtherTable : State → State → Type 0
-OtherTable s r = r ≡ withRest s 0 (r .count) (r .blocks) (r .order) (r .pool)
+OtherTable s r = r ≡ withRest s 0 (r .count) (r .blocks) (r .order) (r .pools)
 
 keep-other : (s r : State) (b : Block) → OtherTable s r → OtherTable s (keep r b)
-keep-other s r b e = ap (λ (x : State). withRest x (x .live) (keep r b .count) (keep r b .blocks) (keep r b .order) (keep r b .pool)) e
+keep-other s r b e = ap (λ (x : State). withRest x (x .live) (keep r b .count) (keep r b .blocks) (keep r b .order) (keep r b .pools)) e
 
 pub kept-other : (s : State) (n : ℕ) → OtherTable s (kept s n)
 unfolding kept
@@ -111,9 +111,9 @@ module _ (s : State) (u t : ℕ) (f : Shaped s u t) (off : s .immediate ≡ fals
 
   keep-good : goodShape (keep r b) u t ≡ true
   keep-good =
-      enter-good r u t g (emptied b) (r .live) (keep r b .blocks) (keep r b .order) (keep r b .pool) room
+      enter-good r u t g (emptied b) (r .live) (keep r b .blocks) (keep r b .order) (keep r b .pools) room
       (inserted-old r z (emptied b)) (inserted-new r z (emptied b) low) (inserted-age r z (emptied b))
-      (subst (λ (x : State). SoundIn x (emptied b)) (sym same) (changed .sound)) slot-apart bytes-apart
+      (subst (λ (x : State). ShapedBlockIn x (emptied b)) (sym same) (changed .sound)) slot-apart bytes-apart
       (subst (λ (x : Pool). Entered (poolAt r p) x (emptied b)) (sym own) entered)
       (λ o ne. put-pool-other with (sized-inserted r z (emptied b)) p q o ne ∙ inserted-pool-other r z (emptied b) o ne)
       (subst (λ (x : Pool). x .empty ≤ pick (r .immediate) 0 1) (sym own) (subst (λ (x : Bool). 1 ≤ pick x 0 1) (sym not-immediate) (omega arith)))

@@ -23,7 +23,7 @@ use Rattle.state.proofs.Tests.{sum-same}
 use Rattle.state.proofs.Find.{Least, least-of}
 use Rattle.table.proofs.Shift.{past-above, fallen-below}
 use Rattle.shape.specs.Parts.{poolSum}
-use Rattle.shape.specs.Facts.{SoundIn}
+use Rattle.shape.specs.Facts.{ShapedBlockIn}
 use Rattle.shape.specs.Shaped.{Shaped}
 use Rattle.shape.proofs.Enough.{enough-good}
 use Rattle.shape_facts.proofs.Facts.{count-64, pool-3}
@@ -65,8 +65,8 @@ module _ (s : State) (u t : ℕ) (f : Shaped s u t) (z : Sized s) (j : ℕ) (h :
   count-low = count-64 s u t f
 
   -- ---- the blocks
-  block-sound : (k : ℕ) → k < s .count - 1 → SoundIn s (getD blocks k zeroBlock)
-  block-sound k l = subst (SoundIn s) (sym (at k (omega (arith, count-low)))) (f .sound (past j k) (past-low j k (s .count) l))
+  block-sound : (k : ℕ) → k < s .count - 1 → ShapedBlockIn s (getD blocks k zeroBlock)
+  block-sound k l = subst (ShapedBlockIn s) (sym (at k (omega (arith, count-low)))) (f .sound (past j k) (past-low j k (s .count) l))
 
   apart : (i k : ℕ) → i < k → k < s .count - 1 → getD blocks i zeroBlock .slot ≡ getD blocks k zeroBlock .slot → ⊥
   apart i k l n e =

@@ -35,7 +35,7 @@ use Rattle.shape_facts.specs.Ready.{Makeable}
 use Rattle.shape_facts.proofs.Pool.{g-good, newest-asked, new-ready}
 use Rattle.shape_facts.proofs.New.{makeable}
 use Rattle.machine.specs.Turn.{putBlock, putPool, withCounts}
-use Rattle.machine.specs.Alloc.{makeTurn}
+use Rattle.machine.specs.Alloc.{allocMade}
 use Rattle.shape_kept.specs.Sized.{Sized}
 use Rattle.shape_kept.proofs.After.{put-block, put-block-other, put-pool, put-pool-other, inserted-new, inserted-old, inserted-age, inserted-pool, inserted-pool-other}
 use Rattle.shape_kept.proofs.Cases.{Places, newSize}
@@ -62,30 +62,30 @@ place-apart s b e i l =
 
 -- ---- 32 units divide a new block's size
 module _ (s : State) (v w : ℕ) (f : Shaped s v w) where
-  good : isGranularity (s .g) ≡ true
-  good = g-good (s .g) (f .head .g-listed)
+  good : isGranularity (s .granularity) ≡ true
+  good = g-good (s .granularity) (f .head .g-listed)
 
-  newest-even : (p : ℕ) → newestSize s p % (32 * s .g) ≡ 0
+  newest-even : (p : ℕ) → newestSize s p % (32 * s .granularity) ≡ 0
   newest-even p = go (latest (s .count) (λ i. eqb (blockAt s i .pool) p)) (latest-of (s .count) (λ i. eqb (blockAt s i .pool) p))
     where
-      go : (x : Found) → Latest (s .count) (λ i. eqb (blockAt s i .pool) p) x → sizeOr s x % (32 * s .g) ≡ 0
+      go : (x : Found) → Latest (s .count) (λ i. eqb (blockAt s i .pool) p) x → sizeOr s x % (32 * s .granularity) ≡ 0
       go (At i) q =
           let b = f .sound i (q .high) in
           let area = blockAt s i .area in
           let whole : area ≡ area / 32 * 32 = omega (arith, b .area-even) in
-          let is : blockAt s i .size ≡ area / 32 * (32 * s .g) = sym (b .area-size) ∙ ap (λ (n : ℕ). n * s .g) whole ∙ omega arith in
-          ap (λ (n : ℕ). n % (32 * s .g)) is ∙ mul-mod-left (area / 32) (32 * s .g)
+          let is : blockAt s i .size ≡ area / 32 * (32 * s .granularity) = sym (b .area-size) ∙ ap (λ (n : ℕ). n * s .granularity) whole ∙ omega arith in
+          ap (λ (n : ℕ). n % (32 * s .granularity)) is ∙ mul-mod-left (area / 32) (32 * s .granularity)
       go Nothing q =
-          let r = granularity-is (s .g) good in
-          ap (λ (n : ℕ). s .size % n) (granularity-word (s .g) good) ∙ base-size-divides (s .size) (5 + r .exponent) (f .head .size-good) (omega (arith, r .high))
+          let r = granularity-is (s .granularity) good in
+          ap (λ (n : ℕ). s .size % n) (granularity-word (s .granularity) good) ∙ base-size-divides (s .size) (5 + r .exponent) (f .head .size-good) (omega (arith, r .high))
 
-  new-even : (p bytes : ℕ) → bytes ≤ 2147483647 → newSize s p bytes % (32 * s .g) ≡ 0
+  new-even : (p bytes : ℕ) → bytes ≤ 2147483647 → newSize s p bytes % (32 * s .granularity) ≡ 0
   new-even p bytes h =
-      let r = granularity-is (s .g) good in
+      let r = granularity-is (s .granularity) good in
       let a = newest-asked s v w p bytes f h in
-      ideal-words (newestSize s p) bytes (a .0) (a .1) (a .2) (s .g) (5 + r .exponent) (omega (arith, r .high)) (granularity-word (s .g) good) (newest-even p)
+      ideal-words (newestSize s p) bytes (a .0) (a .1) (a .2) (s .granularity) (5 + r .exponent) (omega (arith, r .high)) (granularity-word (s .granularity) good) (newest-even p)
 
-module _ (s : State) (v w : ℕ) (f : Shaped s v w) (z : Sized s) (p n bytes at slot : ℕ) (p-low : p < s .pools) (some : 0 < n)
+module _ (s : State) (v w : ℕ) (f : Shaped s v w) (z : Sized s) (p n bytes at slot : ℕ) (p-low : p < s .poolcount) (some : 0 < n)
     (asked : 0 < bytes) (most : bytes ≤ 2147483647) (fits : n * poolAt s p .granularity ≤ bytes) (k : Places s p bytes at slot) where
   abbrev size : ℕ
   size = newSize s p bytes
@@ -107,15 +107,15 @@ module _ (s : State) (v w : ℕ) (f : Shaped s v w) (z : Sized s) (p n bytes at 
 
   -- ---- its area
   abbrev words : ℕ
-  words = size / (32 * s .g)
+  words = size / (32 * s .granularity)
 
-  size-is : size ≡ bytesOf (words * 32) (s .g)
-  size-is = omega (arith, div-add-mod' size (32 * s .g), new-even s v w f p bytes most)
+  size-is : size ≡ bytesOf (words * 32) (s .granularity)
+  size-is = omega (arith, div-add-mod' size (32 * s .granularity), new-even s v w f p bytes most)
 
   area-is : area ≡ words * 32
   area-is =
-      ap (λ (g : ℕ). unitsOf size g) (unit-g s v w f p p-3) ∙ ap (λ (x : ℕ). unitsOf x (s .g)) size-is
-      ∙ units-exact (words * 32) (s .g) (omega (arith, f .head .g-low))
+      ap (λ (g : ℕ). unitsOf size g) (unit-g s v w f p p-3) ∙ ap (λ (x : ℕ). unitsOf x (s .granularity)) size-is
+      ∙ units-exact (words * 32) (s .granularity) (omega (arith, f .head .g-low))
 
   bare-new : Bare s b
   bare-new =
@@ -126,7 +126,7 @@ module _ (s : State) (v w : ℕ) (f : Shaped s v w) (z : Sized s) (p n bytes at 
         base = omega (arith, q .1, f .head .arena-even);
         area-low = omega (arith, ready .fits);
         area-even = omega (arith, area-is);
-        area-size = ap (λ (x : ℕ). x * s .g) area-is ∙ sym size-is;
+        area-size = ap (λ (x : ℕ). x * s .granularity) area-is ∙ sym size-is;
         area-high = ready .placed .area;
         start = ready .fits;
         end = omega arith;
@@ -222,9 +222,9 @@ module _ (s : State) (v w : ℕ) (f : Shaped s v w) (z : Sized s) (p n bytes at 
   place-same : placeOf s b ≡ placeOf s c
   place-same = ap (λ (x : ℕ). orElse (s .count) (least (s .count) (λ y. ltb x (blockAt s (ageAt s y) .base)))) (sym (changed .lies .base))
 
-  pub make-good : (u t : List ℕ) → goodShape (makeTurn s u t p n size at slot .state) v w ≡ true
+  pub make-good : (u t : List ℕ) → goodShape (allocMade s u t p n size at slot .state) v w ≡ true
   make-good u t =
-      enter-good s v w f c (s .live + 1) (after .blocks) (after .order) (after .pool)
+      enter-good s v w f c (s .live + 1) (after .blocks) (after .order) (after .pools)
       (room-left s v w f slot (slot-is s slot (k .free) .0) (slot-is s slot (k .free) .1))
       (λ i ne. put-block-other with sized-with (s .count) c′ low i ne ∙ inserted-old s z b i ne)
       (put-block with sized-with (s .count) c′ low ∙ c-same)

@@ -17,7 +17,7 @@ use Rattle.shape_facts.proofs.Facts.{count-64, pool-3}
 use Rattle.shape_facts.proofs.Search.{Fits}
 use Rattle.shape_facts.proofs.Pool.{hit-ready}
 use Rattle.machine.specs.Turn.{putBlock, putPool, withCounts}
-use Rattle.machine.specs.Alloc.{markTurn}
+use Rattle.machine.specs.Alloc.{allocMarked}
 use Rattle.shape_kept.specs.Sized.{Sized}
 use Rattle.shape_kept.proofs.After.{put-block, put-block-other, put-block-used, put-pool, put-pool-other}
 use Rattle.shape_kept.proofs.Sized.{sized-block}
@@ -58,9 +58,9 @@ module _ (s : State) (v w : ℕ) (f : Shaped s v w) (z : Sized s) (j i n : ℕ) 
   own : poolAt (putPool (putBlock s j c) p q) p ≡ q
   own = put-pool (putBlock s j c) (sized-block s z j c) p q (pool-3 s v w f j h)
 
-  pub mark-good : (u t : List ℕ) → goodShape (markTurn s u t j i n .state) v w ≡ true
+  pub mark-good : (u t : List ℕ) → goodShape (allocMarked s u t j i n .state) v w ≡ true
   mark-good u t =
-      put-good s v w f j h c (s .live + 1) (set (s .blocks) j c) (set (s .pool) p q) (put-block s z j c low) (put-block-other s z j c low) (changed .lies) (changed .sound)
+      put-good s v w f j h c (s .live + 1) (set (s .blocks) j c) (set (s .pools) p q) (put-block s z j c low) (put-block-other s z j c low) (changed .lies) (changed .sound)
       (subst (λ (x : Pool). Recounted (poolAt s p) x b c) (sym own) counted) (put-pool-other (putBlock s j c) (sized-block s z j c) p q) few
       (omega (arith, put-block-used s z j c low h, changed .used-is, f .live))
     where

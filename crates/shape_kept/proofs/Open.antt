@@ -20,8 +20,8 @@ use Rattle.machine.specs.Machine.{release, step}
 abbrev two-live : State
 two-live = record {
   size = 65536;
-  g = 64;
-  pools = 1;
+  granularity = 64;
+  poolcount = 1;
   immediate = false;
   w = 1;
   slots = 1;
@@ -31,7 +31,7 @@ two-live = record {
   count = 1;
   blocks = record { base = 65536; size = 2048; pool = 0; slot = 0; flags = 2; area = 32; used = 2; start = 2; end = 32; largest = 30 } ∷ replicate 63 zeroBlock;
   order = replicate 64 0;
-  pool = record { granularity = 64; blocks = 1; empty = 0; area = 32; used = 2 } ∷ freshPool 64 ∷ freshPool 64 ∷ [];
+  pools = record { granularity = 64; blocks = 1; empty = 0; area = 32; used = 2 } ∷ freshPool 64 ∷ freshPool 64 ∷ [];
 }
 
 abbrev left : Turn

@@ -128,12 +128,12 @@ back k = record { granularity = sym (k .granularity); blocks = sym (k .blocks); 
 abbrev Moved : State → State → (Block → ℕ) → ℕ → ℕ → Type 0
 Moved s r f gone come = sum (r .count) (λ i. f (blockAt r i)) + gone ≡ sum (s .count) (λ i. f (blockAt s i)) + come
 
-pub pool-after : (s r : State) (p : ℕ) (gone come : Pool) → r .g ≡ s .g → poolAt s p ≡ poolSum s (s .count) p → Counted (poolAt s p) (poolAt r p) gone come
+pub pool-after : (s r : State) (p : ℕ) (gone come : Pool) → r .granularity ≡ s .granularity → poolAt s p ≡ poolSum s (s .count) p → Counted (poolAt s p) (poolAt r p) gone come
     → Moved s r (blocksIn p) (gone .blocks) (come .blocks) → Moved s r (emptyIn p) (gone .empty) (come .empty)
     → Moved s r (areaIn p) (gone .area) (come .area) → Moved s r (usedIn p) (gone .used) (come .used)
     → poolAt r p ≡ poolSum r (r .count) p
 pool-after s r p gone come g old k blocks empty area used =
-    pool-is (poolAt r p) (r .g) _ _ _ _
+    pool-is (poolAt r p) (r .granularity) _ _ _ _
     (k .granularity ∙ ap (λ (a : Pool). a .granularity) old ∙ sym g)
     (same (gone .blocks) (come .blocks) (k .blocks) (ap (λ (a : Pool). a .blocks) old) blocks)
     (same (gone .empty) (come .empty) (k .empty) (ap (λ (a : Pool). a .empty) old) empty)

@@ -15,7 +15,7 @@ use Rattle.state.specs.Table.{zeroBlock, blockAt, ageAt, poolAt, sum}
 use Rattle.state.specs.Shape.{isZero, goodShape}
 use Rattle.state.specs.Change.{withRest}
 use Rattle.shape.specs.Parts.{poolSum}
-use Rattle.shape.specs.Facts.{SoundIn}
+use Rattle.shape.specs.Facts.{ShapedBlockIn}
 use Rattle.shape.specs.Shaped.{Shaped}
 use Rattle.shape.proofs.Enough.{enough-good}
 use Rattle.shape_kept.proofs.Sums.{sum-put}
@@ -35,7 +35,7 @@ lies-refl b = record { base = refl; size = refl; pool = refl; slot = refl; area 
 
 module _ (s : State) (u t : ℕ) (f : Shaped s u t) (j : ℕ) (h : j < s .count) (b : Block) (live : ℕ) (blocks : List Block) (pool : List Pool)
     (here : getD blocks j zeroBlock ≡ b) (there : (i : ℕ) → (i ≡ j → ⊥) → getD blocks i zeroBlock ≡ blockAt s i)
-    (lies : Lies b (blockAt s j)) (sound : SoundIn s b)
+    (lies : Lies b (blockAt s j)) (sound : ShapedBlockIn s b)
     (own : Recounted (poolAt s (blockAt s j .pool)) (getD pool (blockAt s j .pool) (freshPool 0)) (blockAt s j) b)
     (other : (p : ℕ) → (p ≡ blockAt s j .pool → ⊥) → getD pool p (freshPool 0) ≡ poolAt s p)
     (few : getD pool (blockAt s j .pool) (freshPool 0) .empty ≤ pick (s .immediate) 0 1) where
@@ -49,11 +49,11 @@ module _ (s : State) (u t : ℕ) (f : Shaped s u t) (j : ℕ) (h : j < s .count)
       (λ e. subst (λ (k : ℕ). Lies (getD blocks k zeroBlock) (blockAt s k)) (sym e) (subst (λ (c : Block). Lies c (blockAt s j)) (sym here) lies))
       (λ ne. subst (λ (c : Block). Lies c (blockAt s i)) (sym (there i ne)) (lies-refl (blockAt s i)))
 
-  block-sound : (i : ℕ) → i < s .count → SoundIn s (getD blocks i zeroBlock)
+  block-sound : (i : ℕ) → i < s .count → ShapedBlockIn s (getD blocks i zeroBlock)
   block-sound i l =
       by-eq i j
-      (λ e. subst (λ (k : ℕ). SoundIn s (getD blocks k zeroBlock)) (sym e) (subst (SoundIn s) (sym here) sound))
-      (λ ne. subst (SoundIn s) (sym (there i ne)) (f .sound i l))
+      (λ e. subst (λ (k : ℕ). ShapedBlockIn s (getD blocks k zeroBlock)) (sym e) (subst (ShapedBlockIn s) (sym here) sound))
+      (λ ne. subst (ShapedBlockIn s) (sym (there i ne)) (f .sound i l))
 
   -- a sum over all blocks of what each adds
   moved : (g : Block → ℕ) → sum (s .count) (λ i. g (getD blocks i zeroBlock)) + g (blockAt s j) ≡ sum (s .count) (λ i. g (blockAt s i)) + g b

@@ -13,7 +13,7 @@ use Rattle.block.specs.Marking.{moved, marked, emptied, widened, released}
 use Rattle.sizes.proofs.Cases.{picked}
 use Rattle.state.specs.declared.State.{State}
 use Rattle.state.specs.Shape.{isEmpty}
-use Rattle.shape.specs.Facts.{SoundIn}
+use Rattle.shape.specs.Facts.{ShapedBlockIn}
 use Rattle.shape_kept.proofs.Put.{Lies}
 
 -- ---- the flags, of which there are four values
@@ -48,11 +48,11 @@ module _ (f : ℕ) (h : f ≤ 3) where
 -- ---- a block in its place, whatever its used count and empty flag
 pub record Bare (s : State) (b : Block) : Type 0 where
   pub slot : b .slot < s .slots
-  pub pool : b .pool < s .pools
+  pub pool : b .pool < s .poolcount
   pub base : b .base % 65536 ≡ 0
   pub area-low : 0 < b .area
   pub area-even : b .area % 32 ≡ 0
-  pub area-size : b .area * s .g ≡ b .size
+  pub area-size : b .area * s .granularity ≡ b .size
   pub area-high : b .area ≤ 32 * s .w
   pub start : b .start ≤ b .area
   pub end : b .end ≤ b .area
@@ -61,7 +61,7 @@ pub record Bare (s : State) (b : Block) : Type 0 where
   pub below : b .base + b .size ≤ s .arena + s .length
   pub flags : b .flags ≤ 3
 
-pub bare : (s : State) (b : Block) → SoundIn s b → Bare s b
+pub bare : (s : State) (b : Block) → ShapedBlockIn s b → Bare s b
 bare s b q = record {
   slot = q .slot;
   pool = q .pool;
@@ -80,14 +80,14 @@ bare s b q = record {
 
 -- c is b with another used count, sound, and flagged empty or not
 pub record Changed (s : State) (b c : Block) (used : ℕ) (empty : Bool) : Type 0 where
-  pub sound : SoundIn s c
+  pub sound : ShapedBlockIn s c
   pub lies : Lies c b
   pub used-is : c .used ≡ used
   pub empty-is : isEmpty c ≡ empty
 
 module _ (s : State) (b : Block) (q : Bare s b) (flags used start end largest : ℕ) (u : used ≤ b .area) (x : start ≤ b .area) (y : end ≤ b .area) (z : largest ≤ b .area)
     (few : flags < 4) where
-  numbers : (isOn flags emptyFlag ≡ true → used ≡ 0) → (used ≡ 0 → isOn flags emptyFlag ≡ true) → SoundIn s (withNumbers b flags used start end largest)
+  numbers : (isOn flags emptyFlag ≡ true → used ≡ 0) → (used ≡ 0 → isOn flags emptyFlag ≡ true) → ShapedBlockIn s (withNumbers b flags used start end largest)
   numbers f g = record {
     slot = q .slot;
     pool = q .pool;
@@ -145,7 +145,7 @@ emptied-changed s b q =
     let w = emptied-flags (b .flags) (q .flags) in
     numbers-empty s b q _ 0 0 (b .area) (b .area) (omega arith) (omega arith) (omega arith) (omega arith) (w .1) (w .0) refl
 
-pub widened-changed : (s : State) (b : Block) → SoundIn s b → (i e : ℕ) → i < e → e ≤ b .area → 0 < b .used - (e - i) → Changed s b (widened b i e) (b .used - (e - i)) false
+pub widened-changed : (s : State) (b : Block) → ShapedBlockIn s b → (i e : ℕ) → i < e → e ≤ b .area → 0 < b .used - (e - i) → Changed s b (widened b i e) (b .used - (e - i)) false
 widened-changed s b q i e h l pos =
     let w = widened-flags (b .flags) (q .flags) in
     numbers-used s b (bare s b q) _ (b .used - (e - i)) (min (b .start) i) (max (b .end) e) (b .largest)
@@ -160,7 +160,7 @@ widened-changed s b q i e h l pos =
 abbrev pub emptyAt : ℕ → Bool
 emptyAt n = eqb n 0
 
-pub released-changed : (s : State) (b : Block) → SoundIn s b → (i e : ℕ) → i < e → e ≤ b .area → Changed s b (released b i e) (b .used - (e - i)) (emptyAt (b .used - (e - i)))
+pub released-changed : (s : State) (b : Block) → ShapedBlockIn s b → (i e : ℕ) → i < e → e ≤ b .area → Changed s b (released b i e) (b .used - (e - i)) (emptyAt (b .used - (e - i)))
 unfolding released
 released-changed s b q i e h l = go (eqb (b .used - (e - i)) 0) refl
   where

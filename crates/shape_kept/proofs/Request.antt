@@ -36,12 +36,12 @@ module _ (s : State) (u t : List ℕ) (size bytes : ℕ) (k : Seeks s u t size b
 
   pub seeks-ready : Allocates s (length u) (length t) bytes
   seeks-ready =
-      let a = rounded-is size (s .g) bytes (k .is) in
+      let a = rounded-is size (s .granularity) bytes (k .is) in
       record {
         shaped = seeks-shaped;
         some = a .some;
         most = a .small;
-        even = ap (λ (n : ℕ). n % s .g) (a .is) ∙ up-even size (s .g) (g-good (s .g) (seeks-shaped .head .g-listed));
+        even = ap (λ (n : ℕ). n % s .granularity) (a .is) ∙ up-even size (s .granularity) (g-good (s .granularity) (seeks-shaped .head .g-listed));
       }
 
   pub seeks-some : 0 < unitsFor s bytes

@@ -23,8 +23,8 @@ use Rattle.state.specs.Shape.{inPool}
 use Rattle.state.specs.Change.{inserted, removed}
 use Rattle.state.proofs.Lists.{length-listFrom}
 use Rattle.machine.specs.Turn.{Turn, putBlock, putPool, withLive}
-use Rattle.machine.specs.Alloc.{after, searchFrom, searchPool, markTurn}
-use Rattle.machine.specs.Release.{lessUsed, freeTurn, releaseTurn}
+use Rattle.machine.specs.Alloc.{after, searchFrom, searchPool, allocMarked}
+use Rattle.machine.specs.Release.{lessUsed, releaseUnits, releaseTurn}
 use Rattle.machine.specs.Reset.{emptyTable, oldest, keep, kept}
 use Rattle.machine.specs.Machine.{Call, create, alloc, release, shrink, query, softReset, hardReset, step}
 use Rattle.shape_kept.specs.Sized.{Sized}
@@ -40,7 +40,7 @@ module _ (s : State) (z : Sized s) where
   sized-block j b = record { blocks = length-set (s .blocks) j b ∙ z .blocks; order = z .order; pools = z .pools }
 
   pub sized-pool : (p : ℕ) (q : Pool) → Sized (putPool s p q)
-  sized-pool p q = record { blocks = z .blocks; order = z .order; pools = length-set (s .pool) p q ∙ z .pools }
+  sized-pool p q = record { blocks = z .blocks; order = z .order; pools = length-set (s .pools) p q ∙ z .pools }
 
   pub sized-live : (live : ℕ) → Sized (withLive s live)
   sized-live live = record { blocks = z .blocks; order = z .order; pools = z .pools }
@@ -49,11 +49,11 @@ module _ (s : State) (z : Sized s) where
   sized-inserted b = record {
     blocks = length-set (s .blocks) (s .count) b ∙ z .blocks;
     order = length-listFrom 0 64 _;
-    pools = length-set (s .pool) (b .pool) _ ∙ z .pools;
+    pools = length-set (s .pools) (b .pool) _ ∙ z .pools;
   }
 
   pub sized-removed : (j : ℕ) → Sized (removed s j)
-  sized-removed j = record { blocks = length-listFrom 0 64 _; order = length-listFrom 0 64 _; pools = length-set (s .pool) (blockAt s j .pool) _ ∙ z .pools }
+  sized-removed j = record { blocks = length-listFrom 0 64 _; order = length-listFrom 0 64 _; pools = length-set (s .pools) (blockAt s j .pool) _ ∙ z .pools }
 
 pub sized-less : (s : State) → Sized s → (j : ℕ) (b : Block) (n : ℕ) → Sized (lessUsed s j b n)
 sized-less s z j b n = sized-pool (putBlock s j b) (sized-block s z j b) (blockAt s j .pool) _
@@ -91,13 +91,13 @@ sized-search s z u p n = from-sized u p n 0 (s .count) s z
 abbrev Left : Turn → Type 0
 Left x = Sized (x .state)
 
-marked-sized : (s : State) → Sized s → (u t : List ℕ) (j i n : ℕ) → Left (markTurn s u t j i n)
+marked-sized : (s : State) → Sized s → (u t : List ℕ) (j i n : ℕ) → Left (allocMarked s u t j i n)
 marked-sized s z u t j i n =
     let b = marked (blockAt s j) i (i + n) in
     sized-live (putPool (putBlock s j b) (blockAt s j .pool) _) (sized-pool (putBlock s j b) (sized-block s z j b) (blockAt s j .pool) _) (s .live + 1)
 
 module _ (s : State) (u t : List ℕ) (z : Sized s) where
-  freed : (a j i e : ℕ) → Left (freeTurn s u t a j i e)
+  freed : (a j i e : ℕ) → Left (releaseUnits s u t a j i e)
   freed a j i e =
       let m = markReleased (s .w) (blockAt s j) i e u t in
       let r = withLive (lessUsed s j (m .block) (e - i)) (s .live - 1) in

@@ -27,14 +27,14 @@ use Rattle.shape_facts.proofs.Clear.{length-clear}
 use Rattle.shape_facts.proofs.Leaves.{released-stays}
 use Rattle.machine.specs.Turn.{Turn, withLive, clearSlot}
 use Rattle.machine.specs.Create.{Asked, slotsOf, granted}
-use Rattle.machine.specs.Alloc.{markTurn, makeTurn}
-use Rattle.machine.specs.Release.{lessUsed, freeTurn, releaseTurn}
-use Rattle.machine.specs.Shrink.{cutTurn}
+use Rattle.machine.specs.Alloc.{allocMarked, allocMade}
+use Rattle.machine.specs.Release.{lessUsed, releaseUnits, releaseTurn}
+use Rattle.machine.specs.Shrink.{shrinkTail}
 use Rattle.machine.specs.Reset.{clearBlocks}
 use Rattle.machine.specs.Machine.{Call, create, alloc, release, shrink, query, softReset, hardReset, step}
 use Rattle.shape_kept.specs.Sized.{Sized}
 use Rattle.shape_kept.proofs.After.{inserted-new, less-block}
-use Rattle.shape_kept.proofs.Cases.{Holds, Frees, Cuts, Seeks, Places, poolFor, unitsFor, searchFor, newSize, settle-cases, create-cases, query-cases, release-cases, shrink-cases, reset-cases, alloc-cases}
+use Rattle.shape_kept.proofs.Cases.{Holds, FreesSpan, Cuts, Seeks, Places, poolFor, unitsFor, searchFor, newSize, settle-cases, create-cases, query-cases, release-cases, shrink-cases, reset-cases, alloc-cases}
 use Rattle.shape_kept.proofs.Sized.{sized-search}
 use Rattle.shape_kept.proofs.Request.{seeks-some, seeks-left}
 
@@ -50,7 +50,7 @@ Long u t x = (length (x .used) ≡ length u) × (length (x .stop) ≡ length t)
 abbrev pub Room : ℕ → ℕ → List ℕ → List ℕ → Type 0
 Room w slot u t = ((slot + 1) * w ≤ length u) × ((slot + 1) * w ≤ length t)
 
-pub mark-long : (s : State) (u t : List ℕ) (j i n : ℕ) → Room (s .w) (blockAt s j .slot) u t → Long u t (markTurn s u t j i n)
+pub mark-long : (s : State) (u t : List ℕ) (j i n : ℕ) → Room (s .w) (blockAt s j .slot) u t → Long u t (allocMarked s u t j i n)
 mark-long s u t j i n r =
     let w = s .w in
     let slot = blockAt s j .slot in
@@ -59,7 +59,7 @@ mark-long s u t j i n r =
 pub clear-long : (w slot : ℕ) (u t : List ℕ) → Room w slot u t → (length (clearSlot w slot u) ≡ length u) × (length (clearSlot w slot t) ≡ length t)
 clear-long w slot u t r = (length-cleared w slot u (r .0), length-cleared w slot t (r .1))
 
-pub make-long : (s : State) (u t : List ℕ) (p n size at slot : ℕ) → Sized s → s .count < 64 → Room (s .w) slot u t → Long u t (makeTurn s u t p n size at slot)
+pub make-long : (s : State) (u t : List ℕ) (p n size at slot : ℕ) → Sized s → s .count < 64 → Room (s .w) slot u t → Long u t (allocMade s u t p n size at slot)
 make-long s u t p n size at slot z h r =
     let b = fresh at size p slot (unitsOf size (poolAt s p .granularity)) n in
     let v = clearSlot (s .w) slot u in
@@ -83,7 +83,7 @@ module _ (s : State) (u t : List ℕ) (z : Sized s) where
       let f = shaped-is s (length u) (length t) (k .good) in
       slot-room s (length u) (length t) f (blockAt s j .slot) (f .sound j (found-in s a j (k .found) .0) .slot)
 
-  freed : (a j i e : ℕ) → Frees s u t a j i e → Long u t (freeTurn s u t a j i e)
+  freed : (a j i e : ℕ) → FreesSpan s u t a j i e → Long u t (releaseUnits s u t a j i e)
   freed a j i e k =
       let m = markReleased (s .w) (blockAt s j) i e u t in
       let r = withLive (lessUsed s j (m .block) (e - i)) (s .live - 1) in
@@ -102,7 +102,7 @@ module _ (s : State) (u t : List ℕ) (z : Sized s) where
   released-long : (a : ℕ) → Long u t (releaseTurn s u t a)
   released-long a = release-cases (Long u t) s u t (λ why. (refl, refl)) a (freed a)
 
-  cut : (a size j i e n : ℕ) → Cuts s u t a size j i e n → Long u t (cutTurn s u t a j i e n)
+  cut : (a size j i e n : ℕ) → Cuts s u t a size j i e n → Long u t (shrinkTail s u t a j i e n)
   cut a size j i e n k =
       let slot = blockAt s j .slot in
       let room = found-room a j i e (k .holds) in
@@ -118,7 +118,7 @@ module _ (s : State) (u t : List ℕ) (z : Sized s) where
       let room : (i : ℕ) → i < s .count → Room (s .w) (blockAt s i .slot) u t = λ i h. slot-room s (length u) (length t) f (blockAt s i .slot) (f .sound i h .slot) in
       (length-clear s (s .count) u (λ i h. room i h .0), length-clear s (s .count) t (λ i h. room i h .1))
 
-  hit : (size bytes j i : ℕ) → Seeks s u t size bytes → searchFor s u bytes .hit ≡ At j i → Long u t (markTurn (searchFor s u bytes .state) u t j i (unitsFor s bytes))
+  hit : (size bytes j i : ℕ) → Seeks s u t size bytes → searchFor s u bytes .hit ≡ At j i → Long u t (allocMarked (searchFor s u bytes .state) u t j i (unitsFor s bytes))
   hit size bytes j i k e =
       let l = seeks-left s u t size bytes k z in
       let r = searchFor s u bytes .state in
@@ -126,7 +126,7 @@ module _ (s : State) (u t : List ℕ) (z : Sized s) where
       mark-long r u t j i (unitsFor s bytes) (slot-room r (length u) (length t) (l .shaped) (blockAt r j .slot) (l .shaped .sound j (p .0) .slot))
 
   make : (size bytes at slot : ℕ) → Seeks s u t size bytes → Places (searchFor s u bytes .state) (poolFor s bytes) bytes at slot
-      → Long u t (makeTurn (searchFor s u bytes .state) u t (poolFor s bytes) (unitsFor s bytes) (newSize (searchFor s u bytes .state) (poolFor s bytes) bytes) at slot)
+      → Long u t (allocMade (searchFor s u bytes .state) u t (poolFor s bytes) (unitsFor s bytes) (newSize (searchFor s u bytes .state) (poolFor s bytes) bytes) at slot)
   make size bytes at slot k m =
       let l = seeks-left s u t size bytes k z in
       let r = searchFor s u bytes .state in

@@ -6,4 +6,4 @@ use Rattle.state.specs.declared.State.{State}
 pub record Sized (s : State) : Type 0 where
   pub blocks : length (s .blocks) ≡ 64
   pub order : length (s .order) ≡ 64
-  pub pools : length (s .pool) ≡ 3
+  pub pools : length (s .pools) ≡ 3

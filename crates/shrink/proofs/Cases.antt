@@ -15,7 +15,7 @@ use Rattle.state.specs.declared.Answer.the-variants.{Shrunk}
 use Rattle.state.specs.Table.{blockAt}
 use Rattle.machine.specs.Turn.{turn, refuse, span, unitOf}
 use Rattle.machine.specs.Release.{releaseTurn}
-use Rattle.machine.specs.Shrink.{cutTurn, unitsTurn, shrunkTurn, shrinkTurn}
+use Rattle.machine.specs.Shrink.{shrinkTail, shrinkUnits, shrinkHeld, shrinkTurn}
 
 -- ---- bytes for units
 module _ (size unit : ℕ) (some : 0 < unit) where
@@ -32,21 +32,21 @@ module _ (size unit : ℕ) (some : 0 < unit) where
 
 -- ---- a span, by the units that it is to keep
 module _ (s : State) (u t : List ℕ) (a j i e n : ℕ) where
-  pub more-units : ltb (e - i) n ≡ true → refuse InvalidState s u t ≡ unitsTurn s u t a j i e n
+  pub more-units : ltb (e - i) n ≡ true → refuse InvalidState s u t ≡ shrinkUnits s u t a j i e n
   more-units z = rw z
 
-  pub same-units : ltb (e - i) n ≡ false → eqb n (e - i) ≡ true → turn (Shrunk (span a (bytesOf n (unitOf s (blockAt s j))))) s u t ≡ unitsTurn s u t a j i e n
+  pub same-units : ltb (e - i) n ≡ false → eqb n (e - i) ≡ true → turn (Shrunk (span a (bytesOf n (unitOf s (blockAt s j))))) s u t ≡ shrinkUnits s u t a j i e n
   same-units y z = rw (y, z)
 
-  pub fewer-units : ltb (e - i) n ≡ false → eqb n (e - i) ≡ false → cutTurn s u t a j i e n ≡ unitsTurn s u t a j i e n
+  pub fewer-units : ltb (e - i) n ≡ false → eqb n (e - i) ≡ false → shrinkTail s u t a j i e n ≡ shrinkUnits s u t a j i e n
   fewer-units y z = rw (y, z)
 
 module _ (s : State) (u t : List ℕ) (a size j i e : ℕ) where
-  pub shrunk-damaged : ltb (blockAt s j .used) (e - i) ≡ true → refuse Damaged s u t ≡ shrunkTurn s u t a size j (Units i e)
+  pub shrunk-damaged : ltb (blockAt s j .used) (e - i) ≡ true → refuse Damaged s u t ≡ shrinkHeld s u t a size j (Units i e)
   shrunk-damaged z = rw z
 
   pub shrunk-units : ltb (blockAt s j .used) (e - i) ≡ false
-      → unitsTurn s u t a j i e (unitsOf size (unitOf s (blockAt s j))) ≡ shrunkTurn s u t a size j (Units i e)
+      → shrinkUnits s u t a j i e (unitsOf size (unitOf s (blockAt s j))) ≡ shrinkHeld s u t a size j (Units i e)
   shrunk-units z = rw z
 
 -- ---- without a byte

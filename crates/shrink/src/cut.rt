@@ -14,7 +14,7 @@ ghost use Rattle.state.specs.Table.{blockAt};
 ghost use Rattle.shape.specs.Shaped.{Shaped};
 ghost use Rattle.machine.specs.Turn.{turn, unitOf};
 ghost use Rattle.machine.specs.Release.{lessUsed};
-ghost use Rattle.machine.specs.Shrink.{unitsTurn};
+ghost use Rattle.machine.specs.Shrink.{shrinkUnits};
 
 // The tail of a span of block `j`, from unit `from` up to `to`, goes.
 fn cut_off(s: State, used: &mut [u32], stop: &mut [u32], j: usize, from: u32, to: u32) -> State
@@ -40,33 +40,33 @@ fn units_for(s: State, j: usize, size: u64) -> u32
     numbers::area_size_from_byte_size(size, pool.granularity)
 }
 
-// The span of block `j` from unit `i` up to `e` keeps what `size` bytes take. A size may be too large to be turned into units, so the
+// The span of block `j` from unit `from` up to `to` keeps what `size` bytes take. A size may be too large to be turned into units, so the
 // two are compared in bytes.
-pub fn keep(
+pub fn shrink_span(
     s: State,
     used: &mut [u32],
     stop: &mut [u32],
     address: u64,
     size: u64,
     j: usize,
-    i: u32,
-    e: u32,
+    from: u32,
+    to: u32,
 ) -> Outcome
-    requires { ⌜ Shaped s (length (now used)) (length (now stop)) × (j < s .count) × SpanIn (blockAt s j) i e ⌝ }
-    requires { ⌜ (e - i ≤ blockAt s j .used) × (0 < size) ⌝ }
+    requires { ⌜ Shaped s (length (now used)) (length (now stop)) × (j < s .count) × SpanIn (blockAt s j) from to ⌝ }
+    requires { ⌜ (to - from ≤ blockAt s j .used) × (0 < size) ⌝ }
     ensures { λ r. ⌜ turn (r .answer) (r .state) (now (used .exit)) (now (stop .exit))
-        ≡ unitsTurn s (now (used .entry)) (now (stop .entry)) address j i e (unitsOf size (unitOf s (blockAt s j))) ⌝ }
+        ≡ shrinkUnits s (now (used .entry)) (now (stop .entry)) address j from to (unitsOf size (unitOf s (blockAt s j))) ⌝ }
 {
-    let whole = spans::span_at(s, j, address, e - i);
+    let whole = spans::span_at(s, j, address, to - from);
     if whole.size < size {
         return state::refused(s, Refusal::InvalidState);
     }
     let n = units_for(s, j, size);
     let kept = spans::span_at(s, j, address, n);
     let answer = Answer::Shrunk(kept);
-    if n == e - i {
+    if n == to - from {
         return Outcome { answer, state: s };
     }
-    let state = cut_off(s, used, stop, j, i + n, e);
+    let state = cut_off(s, used, stop, j, from + n, to);
     Outcome { answer, state }
 }

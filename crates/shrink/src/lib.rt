@@ -35,12 +35,12 @@ pub fn shrink(s: State, used: &mut [u32], stop: &mut [u32], address: u64, size: 
         Held::NoStop => {
             return state::refused(s, Refusal::Damaged);
         }
-        Held::Units(i, e) => {
+        Held::Units(from, to) => {
             let b = state::block_at(s, j);
-            if b.used < e - i {
+            if b.used < to - from {
                 return state::refused(s, Refusal::Damaged);
             }
-            return cut::keep(s, used, stop, address, size, j, i, e);
+            return cut::shrink_span(s, used, stop, address, size, j, from, to);
         }
     }
 }

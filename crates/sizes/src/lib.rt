@@ -41,18 +41,18 @@ impl Pool {
 }
 
 // From the last pool down: the first one of whose step the size is a multiple. Pool 0 takes what is left.
-pub fn size_to_pool_id(size: u64, g: u64, pools: usize) -> usize
-    requires { ⌜ (size < 2 ^ 32) × (isGranularity g ≡ true) × ((pools ≡ 1) ⊎ (pools ≡ 3)) ⌝ }
-    ensures { λ r. ⌜ r ≡ poolOf size g pools ⌝ }
+pub fn size_to_pool_id(size: u64, granularity: u64, poolcount: usize) -> usize
+    requires { ⌜ (size < 2 ^ 32) × (isGranularity granularity ≡ true) × ((poolcount ≡ 1) ⊎ (poolcount ≡ 3)) ⌝ }
+    ensures { λ r. ⌜ r ≡ poolOf size granularity poolcount ⌝ }
 {
-    let mut id = pools - 1;
-    let mut granularity = g << id;
+    let mut id = poolcount - 1;
+    let mut step = granularity << id;
     while id != 0 {
-        if numbers::align_up(size, granularity) == size {
+        if numbers::align_up(size, step) == size {
             break;
         }
         id -= 1;
-        granularity >>= 1;
+        step >>= 1;
     }
     id
 }
@@ -71,11 +71,11 @@ impl Rounded {
 }
 
 // No test stands before the rounding: a size that wraps becomes 0, and is refused as 0 is.
-pub fn round_size(size: u64, g: u64) -> Rounded
-    requires { ⌜ 0 < g ⌝ }
-    ensures { λ r. ⌜ r ≡ rounded size g ⌝ }
+pub fn round_size(size: u64, granularity: u64) -> Rounded
+    requires { ⌜ 0 < granularity ⌝ }
+    ensures { λ r. ⌜ r ≡ rounded size granularity ⌝ }
 {
-    let rounded = numbers::align_up(size, g);
+    let rounded = numbers::align_up(size, granularity);
     if rounded == 0 {
         return Rounded::Refused(Rounded::INVALID_ARGUMENT);
     }

@@ -7,18 +7,18 @@ pub const MIN_GRANULARITY: u64 = 64;
 
 pub const MIN_BLOCK_SIZE: u64 = 64 * 1024;
 
-pub fn is_granularity(g: u64) -> bool
-    ensures { λ r. ⌜ r ≡ isGranularity g ⌝ }
+pub fn is_granularity(granularity: u64) -> bool
+    ensures { λ r. ⌜ r ≡ isGranularity granularity ⌝ }
 {
-    g == 64 || g == 128 || g == 256
+    granularity == 64 || granularity == 128 || granularity == 256
 }
 
 pub fn granularity_in_force(asked: u32) -> u64
     ensures { λ r. ⌜ r ≡ granularityInForce asked ⌝ }
 {
-    let g = asked as u64;
-    if is_granularity(g) {
-        g
+    let granularity = asked as u64;
+    if is_granularity(granularity) {
+        granularity
     } else {
         MIN_GRANULARITY
     }

@@ -30,45 +30,45 @@ pub fn slot_mut(words: &mut [u32], slot: usize, w: usize) -> &mut [u32]
 }
 
 // All work on a part is done here, so that `write` stays as it is.
-fn put(part: &mut [u32], at: usize, n: usize, value: bool)
-    requires { ⌜ (at + n ≤ 32 * length (now part)) × (length (now part) < 2 ^ 32) ⌝ }
-    ensures { λ _. ⌜ now (part .exit) ≡ filled (now (part .entry)) at n (boolByte value) ⌝ }
+fn put(part: &mut [u32], from: usize, n: usize, value: bool)
+    requires { ⌜ (from + n ≤ 32 * length (now part)) × (length (now part) < 2 ^ 32) ⌝ }
+    ensures { λ _. ⌜ now (part .exit) ≡ filled (now (part .entry)) from n (boolByte value) ⌝ }
 {
     if value {
-        bits::fill::bit_vector_fill(part, at, n);
+        bits::fill::bit_vector_fill(part, from, n);
     } else {
-        bits::fill::bit_vector_clear(part, at, n);
+        bits::fill::bit_vector_clear(part, from, n);
     }
 }
 
 // The one function that takes a slot's part and writes it.
-pub fn write(words: &mut [u32], slot: usize, w: usize, at: usize, n: usize, value: bool)
-    requires { ⌜ ((slot + 1) * w ≤ length (now words)) × (at + n ≤ 32 * w) × (w < 2 ^ 32) ⌝ }
-    ensures { λ _. ⌜ now (words .exit) ≡ fillSlot w slot (now (words .entry)) at n (boolByte value) ⌝ }
+pub fn write(words: &mut [u32], slot: usize, w: usize, from: usize, n: usize, value: bool)
+    requires { ⌜ ((slot + 1) * w ≤ length (now words)) × (from + n ≤ 32 * w) × (w < 2 ^ 32) ⌝ }
+    ensures { λ _. ⌜ now (words .exit) ≡ fillSlot w slot (now (words .entry)) from n (boolByte value) ⌝ }
 {
     let part = slot_mut(words, slot, w);
-    put(part, at, n, value);
+    put(part, from, n, value);
 }
 
 // ---- units of a slot
 
-// Units `at` to `at + n` of a slot set, in the used map or the stop map.
-pub fn mark(words: &mut [u32], slot: usize, w: usize, at: usize, n: usize)
-    requires { ⌜ ((slot + 1) * w ≤ length (now words)) × (at + n ≤ 32 * w) × (w < 2 ^ 32) ⌝ }
-    ensures { λ _. ⌜ now (words .exit) ≡ fillSlot w slot (now (words .entry)) at n 1 ⌝ }
+// Sets the `n` units from `from` on of a slot, in the used map or the stop map.
+pub fn mark(words: &mut [u32], slot: usize, w: usize, from: usize, n: usize)
+    requires { ⌜ ((slot + 1) * w ≤ length (now words)) × (from + n ≤ 32 * w) × (w < 2 ^ 32) ⌝ }
+    ensures { λ _. ⌜ now (words .exit) ≡ fillSlot w slot (now (words .entry)) from n 1 ⌝ }
 {
-    write(words, slot, w, at, n, true);
+    write(words, slot, w, from, n, true);
 }
 
-// The same units cleared.
-pub fn unmark(words: &mut [u32], slot: usize, w: usize, at: usize, n: usize)
-    requires { ⌜ ((slot + 1) * w ≤ length (now words)) × (at + n ≤ 32 * w) × (w < 2 ^ 32) ⌝ }
-    ensures { λ _. ⌜ now (words .exit) ≡ fillSlot w slot (now (words .entry)) at n 0 ⌝ }
+// Clears them.
+pub fn unmark(words: &mut [u32], slot: usize, w: usize, from: usize, n: usize)
+    requires { ⌜ ((slot + 1) * w ≤ length (now words)) × (from + n ≤ 32 * w) × (w < 2 ^ 32) ⌝ }
+    ensures { λ _. ⌜ now (words .exit) ≡ fillSlot w slot (now (words .entry)) from n 0 ⌝ }
 {
-    write(words, slot, w, at, n, false);
+    write(words, slot, w, from, n, false);
 }
 
-// All words of a slot cleared.
+// Clears all words of a slot.
 pub fn clear_slot(words: &mut [u32], slot: usize, w: usize)
     requires { ⌜ ((slot + 1) * w ≤ length (now words)) × (w < 2 ^ 32) ⌝ }
     ensures { λ _. ⌜ now (words .exit) ≡ putSlot w slot (now (words .entry)) (replicate w 0) ⌝ }

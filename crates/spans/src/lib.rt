@@ -11,7 +11,7 @@ ghost use Rattle.state.specs.Table.{blockAt};
 ghost use Rattle.machine.specs.Turn.{span, unitOf};
 ghost use Rattle.block.specs.Record.{Placed};
 ghost use Rattle.machine.specs.Span.{starts, heldAt, heldOf, heldIn};
-ghost use Rattle.spans.specs.Within.{Within};
+ghost use Rattle.spans.specs.AddressIn.{AddressIn};
 
 // The span at an address of block `j` that has `n` units.
 pub fn span_at(s: State, j: usize, address: u64, n: u32) -> Span
@@ -59,7 +59,7 @@ fn held_at(used: &[u32], stop: &[u32], area: u32, unit: u32) -> Held
 
 // What stands at an address of a block whose units have `unit` bytes.
 fn held_of(b: Block, used: &[u32], stop: &[u32], w: usize, unit: u64, address: u64) -> Held
-    requires { ⌜ Placed b w (length (now used)) (length (now stop)) × Within b unit address ⌝ }
+    requires { ⌜ Placed b w (length (now used)) (length (now stop)) × AddressIn b unit address ⌝ }
     ensures { λ r. ⌜ r ≡ heldOf w b unit (now (used .entry)) (now (stop .entry)) address ⌝ }
 {
     let offset = address - b.base;
@@ -75,7 +75,7 @@ fn held_of(b: Block, used: &[u32], stop: &[u32], w: usize, unit: u64, address: u
 
 // What stands at an address of the block of age `j`.
 pub fn held_in(s: State, used: &[u32], stop: &[u32], j: usize, address: u64) -> Held
-    requires { ⌜ (j < 64) × (blockAt s j .pool < 3) × Placed (blockAt s j) (s .w) (length (now used)) (length (now stop)) × Within (blockAt s j) (unitOf s (blockAt s j)) address ⌝ }
+    requires { ⌜ (j < 64) × (blockAt s j .pool < 3) × Placed (blockAt s j) (s .w) (length (now used)) (length (now stop)) × AddressIn (blockAt s j) (unitOf s (blockAt s j)) address ⌝ }
     ensures { λ r. ⌜ r ≡ heldIn s (now (used .entry)) (now (stop .entry)) address j ⌝ }
 {
     let b = state::block_at(s, j);

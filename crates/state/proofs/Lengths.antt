@@ -16,5 +16,5 @@ module _ (s : State) (vs : List Val) (good : Is (row the-type) s vs) where
   pub order-64 : length (s .order) ≡ 64
   order-64 = simp length-map at (good .1 .1 .1 .1 .1 .1 .1 .1 .1 .1 .1 .1 .1 .0 .1 .0 .1)
 
-  pub pool-3 : length (s .pool) ≡ 3
+  pub pool-3 : length (s .pools) ≡ 3
   pool-3 = simp length-map at (good .1 .1 .1 .1 .1 .1 .1 .1 .1 .1 .1 .1 .1 .1 .0 .1 .0 .1)

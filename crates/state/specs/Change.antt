@@ -23,10 +23,10 @@ orElse n Nothing = n
 
 -- the record with other spans and another table
 abbrev pub withRest : State → ℕ → ℕ → List Block → List ℕ → List Pool → State
-withRest s live count blocks order pool = record {
+withRest s live count blocks order pools = record {
   size = s .size;
-  g = s .g;
-  pools = s .pools;
+  granularity = s .granularity;
+  poolcount = s .poolcount;
   immediate = s .immediate;
   w = s .w;
   slots = s .slots;
@@ -36,11 +36,11 @@ withRest s live count blocks order pool = record {
   count = count;
   blocks = blocks;
   order = order;
-  pool = pool;
+  pools = pools;
 }
 
 abbrev pub withTable : State → ℕ → List Block → List ℕ → List Pool → State
-withTable s count blocks order pool = withRest s (s .live) count blocks order pool
+withTable s count blocks order pools = withRest s (s .live) count blocks order pools
 
 -- a pool with other sums of blocks and areas
 abbrev pub withBlocks : Pool → ℕ → ℕ → Pool
@@ -57,7 +57,7 @@ movedUp order k age j = pick (ltb j k) (getD order j 0) (pick (eqb j k) age (get
 abbrev pub inserted : State → Block → State
 inserted s b =
     withTable s (s .count + 1) (set (s .blocks) (s .count) b) (listFrom 0 64 (movedUp (s .order) (placeOf s b) (s .count)))
-    (set (s .pool) (b .pool) (withBlocks (poolAt s (b .pool)) (poolAt s (b .pool) .blocks + 1) (poolAt s (b .pool) .area + b .area)))
+    (set (s .pools) (b .pool) (withBlocks (poolAt s (b .pool)) (poolAt s (b .pool) .blocks + 1) (poolAt s (b .pool) .area + b .area)))
 
 -- ---- the block of age i leaves: later records move up, later positions fall by one, zeros behind
 -- the next but for what stands before i
@@ -78,5 +78,5 @@ abbrev pub removed : State → ℕ → State
 removed s i =
     withTable s (s .count - 1) (listFrom 0 64 (λ k. getD (s .blocks) (past i k) zeroBlock))
     (listFrom 0 64 (λ k. fallen i (getD (s .order) (past (placeOfAge s i) k) 0)))
-    (set (s .pool) (blockAt s i .pool)
+    (set (s .pools) (blockAt s i .pool)
     (withBlocks (poolAt s (blockAt s i .pool)) (poolAt s (blockAt s i .pool) .blocks - 1) (poolAt s (blockAt s i .pool) .area - blockAt s i .area)))

@@ -25,7 +25,7 @@ arenaOk base length =
 -- creation's numbers in the record within the limits
 abbrev pub numbersOk : State → Bool
 numbersOk s =
-    every (isBaseSize (s .size) ∷ isGranularity (s .g) ∷ (eqb (s .pools) 1 || eqb (s .pools) 3) ∷ leb 1 (s .w) ∷ leb (s .w) 16384 ∷ arenaOk (s .arena) (s .length) ∷ [])
+    every (isBaseSize (s .size) ∷ isGranularity (s .granularity) ∷ (eqb (s .poolcount) 1 || eqb (s .poolcount) 3) ∷ leb 1 (s .w) ∷ leb (s .w) 16384 ∷ arenaOk (s .arena) (s .length) ∷ [])
 
 -- slots 1 to 64
 abbrev pub slotsOk : State → Bool
@@ -42,7 +42,7 @@ countOk s = leb (s .count) (s .slots)
 -- ---- one block
 -- no slot or pool number too large
 abbrev pub placeOk : State → Block → Bool
-placeOk s b = ltb (b .slot) (s .slots) && ltb (b .pool) (s .pools)
+placeOk s b = ltb (b .slot) (s .slots) && ltb (b .pool) (s .poolcount)
 
 -- the base a multiple of 65,536
 abbrev pub baseOk : Block → Bool
@@ -51,7 +51,7 @@ baseOk b = eqb (b .base % 65536) 0
 -- the area not 0, a multiple of 32, times g its size, and not past its slot
 abbrev pub areaOk : State → Block → Bool
 areaOk s b =
-    every (not (eqb (b .area) 0) ∷ eqb (b .area % 32) 0 ∷ eqb (b .area * s .g) (b .size) ∷ leb (b .area) (32 * s .w) ∷ [])
+    every (not (eqb (b .area) 0) ∷ eqb (b .area % 32) 0 ∷ eqb (b .area * s .granularity) (b .size) ∷ leb (b .area) (32 * s .w) ∷ [])
 
 -- used, window and largest field not above the area
 abbrev pub fieldsOk : Block → Bool
@@ -92,7 +92,7 @@ emptiesOf s p = sum (s .count) (λ i. one (inPool s p i && isEmpty (blockAt s i)
 abbrev pub poolOk : State → ℕ → Bool
 poolOk s p =
     every
-    (eqb (poolAt s p .granularity) (s .g)
+    (eqb (poolAt s p .granularity) (s .granularity)
     ∷ eqb (poolAt s p .blocks) (sum (s .count) (λ i. one (inPool s p i)))
     ∷ eqb (poolAt s p .empty) (emptiesOf s p)
     ∷ eqb (poolAt s p .area) (sum (s .count) (λ i. only (inPool s p i) (blockAt s i .area)))

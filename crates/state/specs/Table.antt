@@ -14,8 +14,8 @@ zeroBlock = record { base = 0; size = 0; pool = 0; slot = 0; flags = 0; area = 0
 abbrev pub zeroState : State
 zeroState = record {
   size = 0;
-  g = 0;
-  pools = 0;
+  granularity = 0;
+  poolcount = 0;
   immediate = false;
   w = 0;
   slots = 0;
@@ -25,7 +25,7 @@ zeroState = record {
   count = 0;
   blocks = replicate 64 zeroBlock;
   order = replicate 64 0;
-  pool = replicate 3 (freshPool 0);
+  pools = replicate 3 (freshPool 0);
 }
 
 -- the block of age i; the age of the block at place k in order of address; pool p
@@ -36,7 +36,7 @@ abbrev pub ageAt : State → ℕ → ℕ
 ageAt s k = getD (s .order) k 0
 
 abbrev pub poolAt : State → ℕ → Pool
-poolAt s p = getD (s .pool) p (freshPool 0)
+poolAt s p = getD (s .pools) p (freshPool 0)
 
 -- every i below n passes
 unfoldable pub all : ℕ → (ℕ → Bool) → Bool

@@ -12,8 +12,8 @@ pub const SLOT_LIMIT: usize = 64;
 pub struct State {
     // the base block size, the granularity, how many pools and whether empty blocks go at once, as in force
     pub size: u64,
-    pub g: u64,
-    pub pools: usize,
+    pub granularity: u64,
+    pub poolcount: usize,
     pub immediate: bool,
     // words to a slot, and slots
     pub w: usize,
@@ -27,7 +27,7 @@ pub struct State {
     // the blocks by age; `order` has their positions by rising base. Zeros behind both.
     pub blocks: [Block; 64],
     pub order: [usize; 64],
-    pub pool: [Pool; 3],
+    pub pools: [Pool; 3],
 }
 
 // What a search of the table finds: an age or a slot.
@@ -65,8 +65,8 @@ pub fn zero_state() -> State
 {
     State {
         size: 0,
-        g: 0,
-        pools: 0,
+        granularity: 0,
+        poolcount: 0,
         immediate: false,
         w: 0,
         slots: 0,
@@ -76,7 +76,7 @@ pub fn zero_state() -> State
         count: 0,
         blocks: [zero_block(); 64],
         order: [0; 64],
-        pool: [Pool::new(0); 3],
+        pools: [Pool::new(0); 3],
     }
 }
 
@@ -156,5 +156,5 @@ pub fn pool_at(s: State, p: usize) -> Pool
     requires { ⌜ p < 3 ⌝ }
     ensures { λ r. ⌜ r ≡ poolAt s p ⌝ }
 {
-    s.pool[p]
+    s.pools[p]
 }

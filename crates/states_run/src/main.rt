@@ -57,8 +57,8 @@ fn read_pool() -> Pool {
 // The record with no entry yet: its head and its pools.
 fn read_state() -> State {
     let size = read_u64();
-    let g = read_u64();
-    let pools = read_usize();
+    let granularity = read_u64();
+    let poolcount = read_usize();
     let immediate = read_u64() != 0;
     let w = read_usize();
     let slots = read_usize();
@@ -68,8 +68,8 @@ fn read_state() -> State {
     let count = read_usize();
     State {
         size,
-        g,
-        pools,
+        granularity,
+        poolcount,
         immediate,
         w,
         slots,
@@ -79,7 +79,7 @@ fn read_state() -> State {
         count,
         blocks: [state::zero_block(); 64],
         order: [0; 64],
-        pool: [read_pool(), read_pool(), read_pool()],
+        pools: [read_pool(), read_pool(), read_pool()],
     }
 }
 
@@ -141,8 +141,8 @@ fn put_words(words: &mut [u32]) {
 fn head_line(s: State) {
     let numbers = [
         s.size,
-        s.g,
-        s.pools as u64,
+        s.granularity,
+        s.poolcount as u64,
         s.immediate as u64,
         s.w as u64,
         s.slots as u64,
@@ -166,9 +166,9 @@ fn pool_line(q: Pool) {
 }
 
 fn show_pools(s: State) {
-    pool_line(s.pool[0]);
-    pool_line(s.pool[1]);
-    pool_line(s.pool[2]);
+    pool_line(s.pools[0]);
+    pool_line(s.pools[1]);
+    pool_line(s.pools[2]);
 }
 
 fn is_zero(age: usize, b: Block) -> bool {
@@ -240,14 +240,14 @@ fn show_words(name: &[u8], words: &[u32]) {
 
 fn read_asked() -> Asked {
     let size = read_u32();
-    let g = read_u32();
+    let granularity = read_u32();
     let flags = read_u32();
     let w = read_u32();
     let arena = read_u64();
     let length = read_u64();
     Asked {
         size,
-        g,
+        granularity,
         flags,
         w,
         arena,

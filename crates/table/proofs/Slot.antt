@@ -15,18 +15,18 @@ use Rattle.state.specs.Table.{blockAt, all}
 use Rattle.state.specs.Find.{slotFree, lowestSlot}
 use Rattle.state.proofs.Tests.{all-more, all-fails, and-true}
 use Rattle.state.proofs.Find.{least-only}
-use Rattle.table.specs.Ordered.{Taken}
+use Rattle.table.specs.Ordered.{TakenSlots}
 
 none-at : (n k : ℕ) → getD (replicate n false) k false ≡ false
 none-at zero k = refl
 none-at (suc n) zero = refl
 none-at (suc n) (suc k) = none-at n k
 
-pub taken-none : (s : State) → Taken s 0 (replicate 64 false)
+pub taken-none : (s : State) → TakenSlots s 0 (replicate 64 false)
 unfolding all
 taken-none s = record { size = refl; says = λ k h. none-at 64 k }
 
-pub taken-more : (s : State) (i : ℕ) (taken : List Bool) → Taken s i taken → blockAt s i .slot < 64 → Taken s (i + 1) (set taken (blockAt s i .slot) true)
+pub taken-more : (s : State) (i : ℕ) (taken : List Bool) → TakenSlots s i taken → blockAt s i .slot < 64 → TakenSlots s (i + 1) (set taken (blockAt s i .slot) true)
 taken-more s i taken t h = record {
   size = length-set taken (blockAt s i .slot) true ∙ t .size;
   says = λ k l. by-eq k (blockAt s i .slot)
@@ -50,7 +50,7 @@ not-yes : (b c : Bool) → c ≡ not b → c ≡ true → b ≡ false
 not-yes true c p q = sym q ∙ p
 not-yes false c p q = refl
 
-module _ (s : State) (taken : List Bool) (t : Taken s (s .count) taken) (few : s .slots ≤ 64) where
+module _ (s : State) (taken : List Bool) (t : TakenSlots s (s .count) taken) (few : s .slots ≤ 64) where
   pub slot-free : (k : ℕ) → k < s .slots → getD taken k false ≡ false → slotFree s k ≡ true
   slot-free k h e = not-not (slotFree s k) (getD taken k false) (t .says k (omega arith)) e
 

@@ -1,2 +1,2 @@
 pub mod Ordered
-pub mod Ready
+pub mod Changeable

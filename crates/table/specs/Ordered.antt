@@ -32,6 +32,6 @@ pub record Slotted (s : State) : Type 0 where
   pub slot : (i : ℕ) → i < s .count → blockAt s i .slot < 64
 
 -- taken says of each of the 64 slots whether one of the first n blocks has it
-pub record Taken (s : State) (n : ℕ) (taken : List Bool) : Type 0 where
+pub record TakenSlots (s : State) (n : ℕ) (taken : List Bool) : Type 0 where
   pub size : length taken ≡ 64
   pub says : (k : ℕ) → k < 64 → getD taken k false ≡ not (all n (λ i. not (eqb (blockAt s i .slot) k)))

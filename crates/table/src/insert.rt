@@ -6,7 +6,7 @@ ghost use mathlib.Core.Path.{_≡_};
 ghost use Prim.Native.Nat.{ℕ, _+_, _≤_, _<_};
 ghost use lib.ListN.{length, getD};
 ghost use Rattle.state.specs.Table.{ageAt};
-ghost use Rattle.table.specs.Ready.{Enters};
+ghost use Rattle.table.specs.Changeable.{Insertable};
 ghost use Rattle.state.specs.Change.{listFrom, movedUp, placeOf, inserted};
 
 // The order of address with `age` at `place`, those from there on moved up by one.
@@ -44,7 +44,7 @@ fn place_of(s: State, b: Block) -> usize
 
 // A block becomes the newest of the table.
 pub fn insert_block(s: State, b: Block) -> State
-    requires { ⌜ Enters s b ⌝ }
+    requires { ⌜ Insertable s b ⌝ }
     ensures { λ r. ⌜ r ≡ inserted s b ⌝ }
 {
     let count = s.count;
@@ -52,13 +52,13 @@ pub fn insert_block(s: State, b: Block) -> State
     let old = s.order;
     let order = with_age(old, place, count, count);
     let p = b.pool;
-    let mut pool = s.pool[p];
+    let mut pool = s.pools[p];
     pool.blocks = pool.blocks + 1;
     pool.area = pool.area + b.area;
     let mut r = s;
     r.blocks[count] = b;
     r.order = order;
-    r.pool[p] = pool;
+    r.pools[p] = pool;
     r.count = count + 1;
     r
 }

@@ -9,7 +9,7 @@ use state::State;
 ghost use mathlib.Core.Path.{_≡_};
 ghost use Prim.Native.Nat.{_≤_, _<_};
 ghost use Rattle.state.specs.Find.{lookup, lowestSlot, newestSize, lowestPlace};
-ghost use Rattle.table.specs.Ordered.{Ordered, Slotted, Taken, Arranged};
+ghost use Rattle.table.specs.Ordered.{Ordered, Slotted, TakenSlots, Arranged};
 
 // The size to start a new block of a pool from: its newest block's, or the base size if it has none.
 pub fn newest_size(s: State, pool: usize) -> u64
@@ -54,7 +54,7 @@ pub fn lookup_block(s: State, address: u64) -> Found
 // The slots that standing blocks have.
 fn taken_slots(s: State) -> [bool; 64]
     requires { ⌜ Slotted s ⌝ }
-    ensures { λ r. ⌜ Taken s (s .count) r ⌝ }
+    ensures { λ r. ⌜ TakenSlots s (s .count) r ⌝ }
 {
     let mut taken = [false; 64];
     let mut i: usize = 0;

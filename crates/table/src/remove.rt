@@ -5,7 +5,7 @@ ghost use mathlib.Core.Path.{_≡_};
 ghost use Prim.Native.Nat.{ℕ, _≤_, _<_};
 ghost use lib.ListN.{getD};
 ghost use Rattle.state.specs.Table.{zeroBlock};
-ghost use Rattle.table.specs.Ready.{Leaves};
+ghost use Rattle.table.specs.Changeable.{Removable};
 ghost use Rattle.state.specs.Change.{listFrom, past, fallen, placeIn, removed};
 
 // Where the block of an age stands in the order of address.
@@ -70,13 +70,13 @@ fn without_block(blocks: [Block; 64], i: usize, count: usize) -> [Block; 64]
 
 // The block of age `i` leaves the table.
 pub fn remove_block(s: State, i: usize) -> State
-    requires { ⌜ Leaves s i ⌝ }
+    requires { ⌜ Removable s i ⌝ }
     ensures { λ r. ⌜ r ≡ removed s i ⌝ }
 {
     let count = s.count;
     let b = s.blocks[i];
     let p = b.pool;
-    let mut pool = s.pool[p];
+    let mut pool = s.pools[p];
     pool.blocks = pool.blocks - 1;
     pool.area = pool.area - b.area;
     let ages = s.order;
@@ -87,7 +87,7 @@ pub fn remove_block(s: State, i: usize) -> State
     let mut r = s;
     r.blocks = blocks;
     r.order = order;
-    r.pool[p] = pool;
+    r.pools[p] = pool;
     r.count = count - 1;
     r
 }

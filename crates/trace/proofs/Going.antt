@@ -19,7 +19,7 @@ use Rattle.text.proofs.Put.{join}
 use Rattle.lines.proofs.Lines.{answer-most}
 use Rattle.records.proofs.Ways.{whole-size}
 use Rattle.calls.specs.Calls.{callBy}
-use Rattle.trace.specs.Play.{Run, stopped, behind, afterRecord, play, Leaves}
+use Rattle.trace.specs.Play.{Run, stopped, behind, afterRecord, play, Plays}
 
 -- so many records are left of a whole run over bs
 pub record Going (all : Run) (bs before : List ℕ) (left : ℕ) (s : State) (u t : List ℕ) (taken : ℕ) (out : List ℕ) (written : ℕ) : Type 0 where
@@ -59,7 +59,7 @@ first left s u t ds h = ap (λ (k : ℕ). play k s u t ds) (one-of left h)
 module _ {all : Run} {bs before : List ℕ} {left : ℕ} {s : State} {u t : List ℕ} {taken : ℕ} {out : List ℕ} {written : ℕ} where
   -- what is left comes to nothing more
   end-of : (bad : Bool) → Going all bs before left s u t taken out written → play left s u t (drop taken bs) ≡ stopped s u t bad
-      → Leaves all before s u t taken bad out written
+      → Plays all before s u t taken bad out written
   end-of bad g e =
       let a : all ≡ behind taken (g .lines) (stopped s u t bad) = g .rest ∙ ap (behind taken (g .lines)) e in record {
         state = sym (ap (λ (r : Run). r .state) a);
@@ -70,14 +70,14 @@ module _ {all : Run} {bs before : List ℕ} {left : ℕ} {s : State} {u t : List
         lines = subst (λ (l : List ℕ). Puts before 0 l out written) (sym (append-nil (g .lines)) ∙ sym (ap (λ (r : Run). r .lines) a)) (g .put);
       }
 
-  pub no-room : left ≡ 0 → Going all bs before left s u t taken out written → Leaves all before s u t taken false out written
+  pub no-room : left ≡ 0 → Going all bs before left s u t taken out written → Plays all before s u t taken false out written
   unfolding play
   no-room e g = end-of false g (ap (λ (k : ℕ). play k s u t (drop taken bs)) e)
 
-  pub cut : 0 < left → recordOf (drop taken bs) ≡ Cut → Going all bs before left s u t taken out written → Leaves all before s u t taken false out written
+  pub cut : 0 < left → recordOf (drop taken bs) ≡ Cut → Going all bs before left s u t taken out written → Plays all before s u t taken false out written
   cut h e g = end-of false g (first left s u t (drop taken bs) h ∙ ap (afterRecord (play (left - 1)) s u t (drop taken bs)) e)
 
-  pub wrong : 0 < left → recordOf (drop taken bs) ≡ Bad → Going all bs before left s u t taken out written → Leaves all before s u t taken true out written
+  pub wrong : 0 < left → recordOf (drop taken bs) ≡ Bad → Going all bs before left s u t taken out written → Plays all before s u t taken true out written
   wrong h e g = end-of true g (first left s u t (drop taken bs) h ∙ ap (afterRecord (play (left - 1)) s u t (drop taken bs)) e)
 
   -- a record of n bytes, whose call came to x

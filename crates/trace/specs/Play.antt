@@ -45,7 +45,7 @@ play zero s u t bs = stopped s u t false
 play (suc k) s u t bs = afterRecord (play k) s u t bs (recordOf bs)
 
 -- ---- what the trace library leaves of a run: the lines at the front of the lent bytes, which are otherwise as they were
-pub record Leaves (p : Run) (before : List ℕ) (s : State) (u t : List ℕ) (size : ℕ) (wrong : Bool) (after : List ℕ) (written : ℕ) : Type 0 where
+pub record Plays (p : Run) (before : List ℕ) (s : State) (u t : List ℕ) (size : ℕ) (wrong : Bool) (after : List ℕ) (written : ℕ) : Type 0 where
   pub state : s ≡ p .state
   pub used : u ≡ p .used
   pub stop : t ≡ p .stop

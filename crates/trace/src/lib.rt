@@ -4,7 +4,7 @@ use records::Record;
 use state::State;
 ghost use Prim.Native.Nat.{_/_, _≤_};
 ghost use lib.ListN.{length};
-ghost use Rattle.trace.specs.Play.{Leaves, play};
+ghost use Rattle.trace.specs.Play.{Plays, play};
 
 // How far a play came: the state, the bytes taken and written, and whether a bad record stands behind those taken.
 pub struct Played {
@@ -16,7 +16,7 @@ pub struct Played {
 
 // Takes whole good records from the front of `bytes` and writes their lines to the front of `out`, one after the other, as many as there is room for.
 pub fn play(s: State, used: &mut [u32], stop: &mut [u32], bytes: &[u8], out: &mut [u8]) -> Played
-    ensures { λ r. ⌜ Leaves (play (length (now (out .entry)) / 80) s (now (used .entry)) (now (stop .entry)) (now (bytes .entry))) (now (out .entry))
+    ensures { λ r. ⌜ Plays (play (length (now (out .entry)) / 80) s (now (used .entry)) (now (stop .entry)) (now (bytes .entry))) (now (out .entry))
         (r .state) (now (used .exit)) (now (stop .exit)) (r .taken) (r .bad) (now (out .exit)) (r .written) ⌝ }
     ensures { λ r. ⌜ (r .taken ≤ length (now (bytes .entry))) × (r .written ≤ length (now (out .entry))) ⌝ }
 {

@@ -11,7 +11,7 @@ use Rattle.numbers.specs.Units.{unitsOf, bytesOf}
 use Rattle.block.specs.declared.Block.{Block}
 use Rattle.block.specs.Marking.{markReleased}
 use Rattle.sizes.specs.declared.Rounded.{Rounded}
-use Rattle.sizes.specs.declared.Rounded.the-variants.{To, Refused as tooBad}
+use Rattle.sizes.specs.declared.Rounded.the-variants.{To, Refused as unroundable}
 use Rattle.sizes.specs.Sizes.{rounded, idealSize}
 use Rattle.state.specs.declared.State.{State}
 use Rattle.state.specs.declared.Found.{Found}
@@ -35,10 +35,10 @@ use Rattle.shape_facts.proofs.Room.{slot-is, room-left}
 use Rattle.shape_facts.proofs.Search.{Left, Place as Placed}
 use Rattle.shape_facts.proofs.Leaves.{released-stays}
 use Rattle.machine.specs.Turn.{turn, refuse, span, withLive, unitOf}
-use Rattle.machine.specs.Alloc.{searchPool, makeTurn, placeTurn, searchedTurn, poolTurn, sizeTurn, allocTurn}
-use Rattle.machine.specs.Span.{heldIn, shownTurn, queriedTurn, queryTurn}
-use Rattle.machine.specs.Release.{lessUsed, settle, freeTurn, releasedTurn, givenBackTurn, releaseTurn}
-use Rattle.machine.specs.Shrink.{cutTurn, unitsTurn, shrunkTurn, cutDownTurn, shrinkTurn}
+use Rattle.machine.specs.Alloc.{searchPool, allocMade, allocPlaced, allocSearched, allocPool, allocRounded, allocTurn}
+use Rattle.machine.specs.Span.{heldIn, queryHeld, queryFound, queryTurn}
+use Rattle.machine.specs.Release.{lessUsed, settle, releaseUnits, releaseHeld, releaseFound, releaseTurn}
+use Rattle.machine.specs.Shrink.{shrinkTail, shrinkUnits, shrinkHeld, shrinkFound, shrinkTurn}
 use Rattle.machine.specs.Reset.{emptyTable, clearBlocks, kept, resetTurn}
 use Rattle.machine.specs.Machine.{Call, create, alloc, release, shrink, query, softReset, hardReset, step}
 use Rattle.shape_kept.specs.Sized.{Sized}
@@ -67,24 +67,24 @@ module _ (s : State) (u t v v′ : List ℕ) (z : Sized s) (room : s .slots * s 
 
   -- ---- query
   module _ (a : ℕ) where
-    shown-behind : (j : ℕ) (h : Held) → shownTurn s (u ++ v) (t ++ v′) a j h ≡ behind (shownTurn s u t a j h) v v′
+    shown-behind : (j : ℕ) (h : Held) → queryHeld s (u ++ v) (t ++ v′) a j h ≡ behind (queryHeld s u t a j h) v v′
     shown-behind j NoSpan = refl
     shown-behind j NoStop = refl
     shown-behind j (Units i e) = refl
 
-    queried-behind : Good → (f : Found) → lookup s a ≡ f → queriedTurn s (u ++ v) (t ++ v′) a f ≡ behind (queriedTurn s u t a f) v v′
+    queried-behind : Good → (f : Found) → lookup s a ≡ f → queryFound s (u ++ v) (t ++ v′) a f ≡ behind (queryFound s u t a f) v v′
     queried-behind good Nothing e = refl
     queried-behind good (slotAt j) e =
-        ap (shownTurn s (u ++ v) (t ++ v′) a j) (held-behind u t v v′ s a j (found-room good a j e)) ∙ shown-behind j (heldIn s u t a j)
+        ap (queryHeld s (u ++ v) (t ++ v′) a j) (held-behind u t v v′ s a j (found-room good a j e)) ∙ shown-behind j (heldIn s u t a j)
 
     query-behind : queryTurn s (u ++ v) (t ++ v′) a ≡ behind (queryTurn s u t a) v v′
     unfolding queryTurn
     query-behind =
-        bad-behind u t v v′ s room stop-room (queriedTurn s (u ++ v) (t ++ v′) a (lookup s a)) (queriedTurn s u t a (lookup s a))
+        bad-behind u t v v′ s room stop-room (queryFound s (u ++ v) (t ++ v′) a (lookup s a)) (queryFound s u t a (lookup s a))
         (λ good. queried-behind good (lookup s a) refl)
 
     -- ---- release
-    freed-behind : Good → (j : ℕ) → lookup s a ≡ slotAt j → (i e : ℕ) → freeTurn s (u ++ v) (t ++ v′) a j i e ≡ behind (freeTurn s u t a j i e) v v′
+    freed-behind : Good → (j : ℕ) → lookup s a ≡ slotAt j → (i e : ℕ) → releaseUnits s (u ++ v) (t ++ v′) a j i e ≡ behind (releaseUnits s u t a j i e) v v′
     freed-behind good j f i e =
         let w = s .w in
         let slot = blockAt s j .slot in
@@ -100,49 +100,49 @@ module _ (s : State) (u t v v′ : List ℕ) (z : Sized s) (room : s .slots * s 
         ap₂ (λ (p q : List ℕ). settle answer x p q j) (fill-behind w slot u v (r .0) i (e - i) 0) (fill-behind w slot t v′ (r .1) (e - 1) 1 0)
         ∙ settle-behind (m .used) (m .stop) v v′ answer x j (subst (λ (k : ℕ). Room (m .used) (m .stop) v v′ w k) (sym same) kept)
 
-    released-behind : Good → (j : ℕ) → lookup s a ≡ slotAt j → (h : Held) → releasedTurn s (u ++ v) (t ++ v′) a j h ≡ behind (releasedTurn s u t a j h) v v′
+    released-behind : Good → (j : ℕ) → lookup s a ≡ slotAt j → (h : Held) → releaseHeld s (u ++ v) (t ++ v′) a j h ≡ behind (releaseHeld s u t a j h) v v′
     released-behind good j f NoSpan = refl
     released-behind good j f NoStop = refl
     released-behind good j f (Units i e) =
-        pick-behind v v′ (ltb (blockAt s j .used) (e - i) || eqb (s .live) 0) _ _ (refuse Damaged s u t) (freeTurn s u t a j i e) refl (freed-behind good j f i e)
+        pick-behind v v′ (ltb (blockAt s j .used) (e - i) || eqb (s .live) 0) _ _ (refuse Damaged s u t) (releaseUnits s u t a j i e) refl (freed-behind good j f i e)
 
-    given-back-behind : Good → (f : Found) → lookup s a ≡ f → givenBackTurn s (u ++ v) (t ++ v′) a f ≡ behind (givenBackTurn s u t a f) v v′
+    given-back-behind : Good → (f : Found) → lookup s a ≡ f → releaseFound s (u ++ v) (t ++ v′) a f ≡ behind (releaseFound s u t a f) v v′
     given-back-behind good Nothing e = refl
     given-back-behind good (slotAt j) e =
-        ap (releasedTurn s (u ++ v) (t ++ v′) a j) (held-behind u t v v′ s a j (found-room good a j e)) ∙ released-behind good j e (heldIn s u t a j)
+        ap (releaseHeld s (u ++ v) (t ++ v′) a j) (held-behind u t v v′ s a j (found-room good a j e)) ∙ released-behind good j e (heldIn s u t a j)
 
     release-behind : releaseTurn s (u ++ v) (t ++ v′) a ≡ behind (releaseTurn s u t a) v v′
     unfolding releaseTurn
     release-behind =
-        bad-behind u t v v′ s room stop-room _ (pick (eqb a 0) (refuse InvalidArgument s u t) (givenBackTurn s u t a (lookup s a)))
-        (λ good. pick-behind v v′ (eqb a 0) _ _ (refuse InvalidArgument s u t) (givenBackTurn s u t a (lookup s a)) refl (given-back-behind good (lookup s a) refl))
+        bad-behind u t v v′ s room stop-room _ (pick (eqb a 0) (refuse InvalidArgument s u t) (releaseFound s u t a (lookup s a)))
+        (λ good. pick-behind v v′ (eqb a 0) _ _ (refuse InvalidArgument s u t) (releaseFound s u t a (lookup s a)) refl (given-back-behind good (lookup s a) refl))
 
     -- ---- shrink
     module _ (size : ℕ) where
-      units-behind : Good → (j : ℕ) → lookup s a ≡ slotAt j → (i e n : ℕ) → unitsTurn s (u ++ v) (t ++ v′) a j i e n ≡ behind (unitsTurn s u t a j i e n) v v′
+      units-behind : Good → (j : ℕ) → lookup s a ≡ slotAt j → (i e n : ℕ) → shrinkUnits s (u ++ v) (t ++ v′) a j i e n ≡ behind (shrinkUnits s u t a j i e n) v v′
       units-behind good j f i e n =
           pick-behind v v′ (ltb (e - i) n) _ _ (refuse InvalidState s u t) _ refl
-          (pick-behind v v′ (eqb n (e - i)) _ _ (turn (Shrunk (span a (bytesOf n (unitOf s (blockAt s j))))) s u t) (cutTurn s u t a j i e n) refl
+          (pick-behind v v′ (eqb n (e - i)) _ _ (turn (Shrunk (span a (bytesOf n (unitOf s (blockAt s j))))) s u t) (shrinkTail s u t a j i e n) refl
           (cut-behind u t v v′ s a j i e n (found-room good a j f)))
 
-      shrunk-behind : Good → (j : ℕ) → lookup s a ≡ slotAt j → (h : Held) → shrunkTurn s (u ++ v) (t ++ v′) a size j h ≡ behind (shrunkTurn s u t a size j h) v v′
+      shrunk-behind : Good → (j : ℕ) → lookup s a ≡ slotAt j → (h : Held) → shrinkHeld s (u ++ v) (t ++ v′) a size j h ≡ behind (shrinkHeld s u t a size j h) v v′
       shrunk-behind good j f NoSpan = refl
       shrunk-behind good j f NoStop = refl
       shrunk-behind good j f (Units i e) =
           let n = unitsOf size (unitOf s (blockAt s j)) in
-          pick-behind v v′ (ltb (blockAt s j .used) (e - i)) _ _ (refuse Damaged s u t) (unitsTurn s u t a j i e n) refl (units-behind good j f i e n)
+          pick-behind v v′ (ltb (blockAt s j .used) (e - i)) _ _ (refuse Damaged s u t) (shrinkUnits s u t a j i e n) refl (units-behind good j f i e n)
 
-      cut-down-behind : Good → (f : Found) → lookup s a ≡ f → cutDownTurn s (u ++ v) (t ++ v′) a size f ≡ behind (cutDownTurn s u t a size f) v v′
+      cut-down-behind : Good → (f : Found) → lookup s a ≡ f → shrinkFound s (u ++ v) (t ++ v′) a size f ≡ behind (shrinkFound s u t a size f) v v′
       cut-down-behind good Nothing e = refl
       cut-down-behind good (slotAt j) e =
-          ap (shrunkTurn s (u ++ v) (t ++ v′) a size j) (held-behind u t v v′ s a j (found-room good a j e)) ∙ shrunk-behind good j e (heldIn s u t a j)
+          ap (shrinkHeld s (u ++ v) (t ++ v′) a size j) (held-behind u t v v′ s a j (found-room good a j e)) ∙ shrunk-behind good j e (heldIn s u t a j)
 
       shrink-behind : shrinkTurn s (u ++ v) (t ++ v′) a size ≡ behind (shrinkTurn s u t a size) v v′
       unfolding shrinkTurn
       shrink-behind =
           pick-behind v v′ (eqb size 0) _ _ (releaseTurn s u t a) _ release-behind
-          (bad-behind u t v v′ s room stop-room _ (pick (eqb a 0) (refuse InvalidArgument s u t) (cutDownTurn s u t a size (lookup s a)))
-          (λ good. pick-behind v v′ (eqb a 0) _ _ (refuse InvalidArgument s u t) (cutDownTurn s u t a size (lookup s a)) refl (cut-down-behind good (lookup s a) refl)))
+          (bad-behind u t v v′ s room stop-room _ (pick (eqb a 0) (refuse InvalidArgument s u t) (shrinkFound s u t a size (lookup s a)))
+          (λ good. pick-behind v v′ (eqb a 0) _ _ (refuse InvalidArgument s u t) (shrinkFound s u t a size (lookup s a)) refl (cut-down-behind good (lookup s a) refl)))
 
   -- ---- the resets
   reset-behind : (hard : Bool) → resetTurn s (u ++ v) (t ++ v′) hard ≡ behind (resetTurn s u t hard) v v′
@@ -170,16 +170,16 @@ module _ (s : State) (u t v v′ : List ℕ) (z : Sized s) (room : s .slots * s 
     slot-lies : (slot : ℕ) → slot < r .slots → Room u t v v′ (r .w) slot
     slot-lies slot h = slot-room r (length u) (length t) (left .shaped) slot h
 
-    placed-behind : (b : ℕ) (x : Place) (f : Found) → lowestSlot r ≡ f → placeTurn r (u ++ v) (t ++ v′) p n b x f ≡ behind (placeTurn r u t p n b x f) v v′
+    placed-behind : (b : ℕ) (x : Place) (f : Found) → lowestSlot r ≡ f → allocPlaced r (u ++ v) (t ++ v′) p n b x f ≡ behind (allocPlaced r u t p n b x f) v v′
     placed-behind b (Address at) (slotAt slot) e =
         let c = slot-is r slot (sym e) in
         let few = room-left r (length u) (length t) (left .shaped) slot (c .0) (c .1) in
-        pick-behind v v′ (leb (unitsOf (unitsOf b (poolAt r p .granularity)) 32) (r .w)) _ _ (makeTurn r u t p n b at slot) (refuse NoMapping r u t)
+        pick-behind v v′ (leb (unitsOf (unitsOf b (poolAt r p .granularity)) 32) (r .w)) _ _ (allocMade r u t p n b at slot) (refuse NoMapping r u t)
         (make-behind u t v v′ r p n b at slot (sized-search s z u p n) (omega (arith, few, left .shaped .head .slots-high)) (slot-lies slot (c .0))) refl
     placed-behind b (Address at) Nothing e = refl
     placed-behind b noPlace f e = refl
 
-    searched-behind : (h : Hit) → searchFor s u bytes .hit ≡ h → searchedTurn r (u ++ v) (t ++ v′) p n bytes h ≡ behind (searchedTurn r u t p n bytes h) v v′
+    searched-behind : (h : Hit) → searchFor s u bytes .hit ≡ h → allocSearched r (u ++ v) (t ++ v′) p n bytes h ≡ behind (allocSearched r u t p n bytes h) v v′
     searched-behind (At j i) e =
         let q = subst (Placed u (length t) p n (seeks-some s u t size bytes k) r) e (left .place) in
         mark-behind u t v v′ r j i n (slot-lies (blockAt r j .slot) (left .shaped .sound j (q .0) .slot))
@@ -189,20 +189,20 @@ module _ (s : State) (u t v v′ : List ℕ) (z : Sized s) (room : s .slots * s 
     search-same : searchPool s (u ++ v) p n ≡ searchPool s u p n
     search-same = search-behind u v p n 0 (s .count) s (λ j l h. block-room (k .good) j (omega (arith, h)) .0)
 
-    pool-behind : poolTurn s (u ++ v) (t ++ v′) bytes p ≡ behind (poolTurn s u t bytes p) v v′
+    pool-behind : allocPool s (u ++ v) (t ++ v′) bytes p ≡ behind (allocPool s u t bytes p) v v′
     pool-behind =
-        ap (λ (x : Searched). searchedTurn (x .state) (u ++ v) (t ++ v′) p n bytes (x .hit)) search-same
+        ap (λ (x : Searched). allocSearched (x .state) (u ++ v) (t ++ v′) p n bytes (x .hit)) search-same
         ∙ searched-behind (searchFor s u bytes .hit) refl
 
-  sized-behind : (size : ℕ) → Good → (x : Rounded) → rounded size (s .g) ≡ x → sizeTurn s (u ++ v) (t ++ v′) x ≡ behind (sizeTurn s u t x) v v′
+  sized-behind : (size : ℕ) → Good → (x : Rounded) → rounded size (s .granularity) ≡ x → allocRounded s (u ++ v) (t ++ v′) x ≡ behind (allocRounded s u t x) v v′
   sized-behind size good (To bytes) e = pool-behind size bytes (record { good = good; is = e })
-  sized-behind size good (tooBad k) e = refl
+  sized-behind size good (unroundable k) e = refl
 
   alloc-behind : (size : ℕ) → allocTurn s (u ++ v) (t ++ v′) size ≡ behind (allocTurn s u t size) v v′
   unfolding allocTurn
   alloc-behind size =
-      bad-behind u t v v′ s room stop-room (sizeTurn s (u ++ v) (t ++ v′) (rounded size (s .g))) (sizeTurn s u t (rounded size (s .g)))
-      (λ good. sized-behind size good (rounded size (s .g)) refl)
+      bad-behind u t v v′ s room stop-room (allocRounded s (u ++ v) (t ++ v′) (rounded size (s .granularity))) (allocRounded s u t (rounded size (s .granularity)))
+      (λ good. sized-behind size good (rounded size (s .granularity)) refl)
 
   -- ---- any call on a state
   pub words-behind : (c : Call) → OnState c → step s (u ++ v) (t ++ v′) c ≡ behind (step s u t c) v v′

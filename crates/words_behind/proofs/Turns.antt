@@ -25,10 +25,10 @@ use Rattle.state.specs.Table.{zeroBlock, blockAt, poolAt}
 use Rattle.state.specs.Shape.{inPool, clauses, goodShape, badShape}
 use Rattle.state.specs.Change.{inserted, removed}
 use Rattle.machine.specs.Turn.{Turn, turn, refuse, putBlock, unitOf, clearSlot}
-use Rattle.machine.specs.Alloc.{after, searchFrom, markTurn, makeTurn}
+use Rattle.machine.specs.Alloc.{after, searchFrom, allocMarked, allocMade}
 use Rattle.machine.specs.Span.{heldAt, heldIn}
 use Rattle.machine.specs.Release.{settle}
-use Rattle.machine.specs.Shrink.{cutTurn}
+use Rattle.machine.specs.Shrink.{shrinkTail}
 use Rattle.machine.specs.Reset.{clearBlocks}
 use Rattle.shape_facts.proofs.Made.{length-cleared}
 use Rattle.shape_facts.proofs.Clear.{length-clear}
@@ -81,17 +81,17 @@ module _ (u t v v′ : List ℕ) where
       held x y = pick (eqb ((a - blockAt s j .base) % unitOf s (blockAt s j)) 0) (heldAt x y (blockAt s j .area) ((a - blockAt s j .base) / unitOf s (blockAt s j))) NoSpan
 
   -- ---- marking
-  pub mark-behind : (s : State) (j i n : ℕ) → Room (s .w) (blockAt s j .slot) → markTurn s (u ++ v) (t ++ v′) j i n ≡ behind (markTurn s u t j i n) v v′
+  pub mark-behind : (s : State) (j i n : ℕ) → Room (s .w) (blockAt s j .slot) → allocMarked s (u ++ v) (t ++ v′) j i n ≡ behind (allocMarked s u t j i n) v v′
   mark-behind s j i n r =
-      ap₂ (λ (x y : List ℕ). turn (markTurn s u t j i n .answer) (markTurn s u t j i n .state) x y)
+      ap₂ (λ (x y : List ℕ). turn (allocMarked s u t j i n .answer) (allocMarked s u t j i n .state) x y)
       (fill-behind (s .w) (blockAt s j .slot) u v (r .0) i (i + n - i) 1) (fill-behind (s .w) (blockAt s j .slot) t v′ (r .1) (i + n - 1) 1 1)
 
-  pub cut-behind : (s : State) (a j i e n : ℕ) → Room (s .w) (blockAt s j .slot) → cutTurn s (u ++ v) (t ++ v′) a j i e n ≡ behind (cutTurn s u t a j i e n) v v′
+  pub cut-behind : (s : State) (a j i e n : ℕ) → Room (s .w) (blockAt s j .slot) → shrinkTail s (u ++ v) (t ++ v′) a j i e n ≡ behind (shrinkTail s u t a j i e n) v v′
   cut-behind s a j i e n r =
       let w = s .w in
       let slot = blockAt s j .slot in
       let old = length-fill-slot w slot t (e - 1) 1 0 (r .1) in
-      ap₂ (λ (x y : List ℕ). turn (cutTurn s u t a j i e n .answer) (cutTurn s u t a j i e n .state) x y)
+      ap₂ (λ (x y : List ℕ). turn (shrinkTail s u t a j i e n .answer) (shrinkTail s u t a j i e n .state) x y)
       (fill-behind w slot u v (r .0) (i + n) (e - (i + n)) 0)
       (ap (λ (x : List ℕ). fillSlot w slot x (i + n - 1) 1 1) (fill-behind w slot t v′ (r .1) (e - 1) 1 0)
       ∙ fill-behind w slot (fillSlot w slot t (e - 1) 1 0) v′ (omega (arith, old, r .1)) (i + n - 1) 1 1)
@@ -135,13 +135,13 @@ search-behind u v p n i (suc k) s room =
 
 -- ---- a new block
 pub make-behind : (u t v v′ : List ℕ) (s : State) (p n size at slot : ℕ) → Sized s → s .count < 64 → Room u t v v′ (s .w) slot
-    → makeTurn s (u ++ v) (t ++ v′) p n size at slot ≡ behind (makeTurn s u t p n size at slot) v v′
+    → allocMade s (u ++ v) (t ++ v′) p n size at slot ≡ behind (allocMade s u t p n size at slot) v v′
 make-behind u t v v′ s p n size at slot z h r =
     let b = fresh at size p slot (unitsOf size (poolAt s p .granularity)) n in
     let w = s .w in
     let e : blockAt (inserted s b) (s .count) .slot ≡ slot = ap (λ (c : Block). c .slot) (inserted-new s z b h) in
     let room : Room (clearSlot w slot u) (clearSlot w slot t) v v′ w slot = (omega (arith, length-cleared w slot u (r .0), r .0), omega (arith, length-cleared w slot t (r .1), r .1)) in
-    ap₂ (λ (x y : List ℕ). markTurn (inserted s b) x y (s .count) 0 n) (clear-behind w slot u v (r .0)) (clear-behind w slot t v′ (r .1))
+    ap₂ (λ (x y : List ℕ). allocMarked (inserted s b) x y (s .count) 0 n) (clear-behind w slot u v (r .0)) (clear-behind w slot t v′ (r .1))
     ∙ mark-behind (clearSlot w slot u) (clearSlot w slot t) v v′ (inserted s b) (s .count) 0 n
     (subst (λ (k : ℕ). Room (clearSlot w slot u) (clearSlot w slot t) v v′ w k) (sym e) room)
 

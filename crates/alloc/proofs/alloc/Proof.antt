@@ -12,7 +12,7 @@ use Rattle.state.specs.Shape.{goodShape}
 use Rattle.shape.specs.Shaped.{Shaped}
 use Rattle.shape.proofs.Shaped.{shaped-is}
 use Rattle.machine.specs.Turn.{turn, refuse}
-use Rattle.machine.specs.Alloc.{sizeTurn, allocTurn}
+use Rattle.machine.specs.Alloc.{allocRounded, allocTurn}
 use Rattle.shape_facts.proofs.Pool.{g-good}
 use borrow.Author.Needs.{needs}
 use Rattle.alloc.proofs.alloc.Statement.{statement}
@@ -27,9 +27,9 @@ shaped c = let a = c .before .before .before .before .args in shaped-is (a .s) (
 
 -- so the rule goes by the rounded size
 sized : (c : tie.After-round-size) (r : Rounded) → c .round-size .result ≡ r → let a = c .before .before .before .before .before .args in
-    sizeTurn (a .s) (a .used .now) (a .stop .now) r ≡ allocTurn (a .s) (a .used .now) (a .stop .now) (a .size)
+    allocRounded (a .s) (a .used .now) (a .stop .now) r ≡ allocTurn (a .s) (a .used .now) (a .stop .now) (a .size)
 unfolding allocTurn
-sized c r e = let a = c .before .before .before .before .before .args in ap (sizeTurn (a .s) (a .used .now) (a .stop .now)) (sym e ∙ c .round-size .ensures) ∙ rw (good (c .before))
+sized c r e = let a = c .before .before .before .before .before .args in ap (allocRounded (a .s) (a .used .now) (a .stop .now)) (sym e ∙ c .round-size .ensures) ∙ rw (good (c .before))
 
 returns : tie.Need-returns
 unfolding allocTurn
@@ -45,7 +45,7 @@ alloc-rounded-requires : tie.Need-alloc-rounded-requires
 alloc-rounded-requires c κs =
     let a = c .before .before .before .before .before .before .before .before .before .before .args in
     let f = shaped (c .before .before .before .before .before .before) in
-    let q = rounded-to-granularity (a .size) (a .s .g) (c .before .before .before .rounded .given .0 .0) (g-good (a .s .g) (f .head .g-listed)) (c .before .before .before .before .before .before .before .before .before .before .good .1 .1 .1 .0 .1) (sym (c .before .before .before .before .before .round-size .ensures) ∙ c .before .before .before .rounded .given .1) in
+    let q = rounded-to-granularity (a .size) (a .s .granularity) (c .before .before .before .rounded .given .0 .0) (g-good (a .s .granularity) (f .head .g-listed)) (c .before .before .before .before .before .before .before .before .before .before .good .1 .1 .1 .0 .1) (sym (c .before .before .before .before .before .round-size .ensures) ∙ c .before .before .before .rounded .given .1) in
     record { shaped = f; some = q .some; most = q .small; even = q .whole }
 
 returns-2 : tie.Need-returns-2

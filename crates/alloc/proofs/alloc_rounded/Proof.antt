@@ -9,7 +9,7 @@ use Rattle.state.specs.declared.Searched.{Searched}
 use Rattle.state.specs.Table.{blockAt, poolAt}
 use Rattle.state.specs.Find.{newestSize}
 use Rattle.state.proofs.Lengths.{blocks-64}
-use Rattle.machine.specs.Alloc.{searchPool, markTurn, newTurn, searchedTurn}
+use Rattle.machine.specs.Alloc.{searchPool, allocMarked, allocNew, allocSearched}
 use Rattle.shape_facts.proofs.Facts.{count-64}
 use Rattle.shape_facts.proofs.Search.{Fits, Left, Place, search-left}
 use Rattle.shape_facts.specs.Ready.{Makes}
@@ -20,13 +20,13 @@ use Rattle.alloc.proofs.alloc_rounded.Tie as tie
 
 -- the pool and the units, as the rule has them
 units-are : (c : tie.After-area-size-from-byte-size) → let a = c .before .before .before .before .before .args in
-    c .area-size-from-byte-size .result ≡ unitsOf (a .bytes) (poolAt (a .t1) (poolOf (a .bytes) (a .t1 .g) (a .t1 .pools)) .granularity)
+    c .area-size-from-byte-size .result ≡ unitsOf (a .bytes) (poolAt (a .t1) (poolOf (a .bytes) (a .t1 .granularity) (a .t1 .poolcount)) .granularity)
 units-are c =
     let a = c .before .before .before .before .before .args in
     c .area-size-from-byte-size .ensures ∙ ap (λ (p : ℕ). unitsOf (a .bytes) (poolAt (a .t1) p .granularity)) (c .before .before .size-to-pool-id .ensures)
 
 found-is : (c : tie.After-search-pool) → let a = c .before .before .before .before .before .before .before .args in
-    let p = poolOf (a .bytes) (a .t1 .g) (a .t1 .pools) in
+    let p = poolOf (a .bytes) (a .t1 .granularity) (a .t1 .poolcount) in
     c .search-pool .result ≡ searchPool (a .t1) (a .used .now) p (unitsOf (a .bytes) (poolAt (a .t1) p .granularity))
 found-is c =
     let a = c .before .before .before .before .before .before .before .args in
@@ -34,19 +34,19 @@ found-is c =
 
 -- what the search has left
 left : (c : tie.After-search-pool) → let a = c .before .before .before .before .before .before .before .args in
-    let p = poolOf (a .bytes) (a .t1 .g) (a .t1 .pools) in
+    let p = poolOf (a .bytes) (a .t1 .granularity) (a .t1 .poolcount) in
     let pos = some-units (a .t1) (length (a .used .now)) (length (a .stop .now)) (a .bytes) (c .before .before .before .before .before .before .before .pre) in
     Left (a .used .now) (length (a .stop .now)) p (unitsOf (a .bytes) (poolAt (a .t1) p .granularity)) pos (a .t1) (c .search-pool .result)
 left c =
     let a = c .before .before .before .before .before .before .before .args in
-    let p = poolOf (a .bytes) (a .t1 .g) (a .t1 .pools) in
+    let p = poolOf (a .bytes) (a .t1 .granularity) (a .t1 .poolcount) in
     let n = unitsOf (a .bytes) (poolAt (a .t1) p .granularity) in
     let pos = some-units (a .t1) (length (a .used .now)) (length (a .stop .now)) (a .bytes) (c .before .before .before .before .before .before .before .pre) in
     subst (Left (a .used .now) (length (a .stop .now)) p n pos (a .t1)) (sym (found-is c))
     (search-left (a .used .now) (length (a .stop .now)) p n pos (a .t1) (c .before .before .before .before .before .before .before .pre .shaped) (blocks-64 (a .t1) _ (c .before .before .before .before .before .before .before .good .0)))
 
 size-to-pool-id-requires : tie.Need-size-to-pool-id-requires
-size-to-pool-id-requires c κs = let m = c .before .before .pre in (omega (arith, m .most), g-good (c .before .before .args .t1 .g) (m .shaped .head .g-listed), m .shaped .head .pools-listed)
+size-to-pool-id-requires c κs = let m = c .before .before .pre in (omega (arith, m .most), g-good (c .before .before .args .t1 .granularity) (m .shaped .head .g-listed), m .shaped .head .pools-listed)
 
 mul-pool : tie.Need-mul-pool
 mul-pool c = let a = c .before .before .before .args in omega (arith, c .size-to-pool-id .ensures, pool-in (a .t1) (length (a .used .now)) (length (a .stop .now)) (a .bytes) (c .before .before .before .pre))
@@ -76,7 +76,7 @@ mark-span-requires c κs =
     let m = c .before .before .before .before .before .before .before .before .before .before .before .before .before .pre in
     let lu = length (a .used .now) in
     let lt = length (a .stop .now) in
-    let p = poolOf (a .bytes) (a .t1 .g) (a .t1 .pools) in
+    let p = poolOf (a .bytes) (a .t1 .granularity) (a .t1 .poolcount) in
     let n = unitsOf (a .bytes) (poolAt (a .t1) p .granularity) in
     let pos = some-units (a .t1) lu lt (a .bytes) m in
     let st = c .before .before .before .before .before .before .search-pool .result .state in
@@ -94,7 +94,7 @@ calculate-ideal-block-size-requires c κs =
     let m = c .before .before .before .before .before .before .before .before .before .before .before .pre in
     let lu = length (a .used .now) in
     let lt = length (a .stop .now) in
-    let p = poolOf (a .bytes) (a .t1 .g) (a .t1 .pools) in
+    let p = poolOf (a .bytes) (a .t1 .granularity) (a .t1 .poolcount) in
     let n = unitsOf (a .bytes) (poolAt (a .t1) p .granularity) in
     let pos = some-units (a .t1) lu lt (a .bytes) m in
     let st = c .before .before .before .before .search-pool .result .state in
@@ -107,7 +107,7 @@ new-span-requires c κs =
     let m = c .before .before .before .before .before .before .before .before .before .before .before .before .before .before .pre in
     let lu = length (a .used .now) in
     let lt = length (a .stop .now) in
-    let p = poolOf (a .bytes) (a .t1 .g) (a .t1 .pools) in
+    let p = poolOf (a .bytes) (a .t1 .granularity) (a .t1 .poolcount) in
     let n = unitsOf (a .bytes) (poolAt (a .t1) p .granularity) in
     let pos = some-units (a .t1) lu lt (a .bytes) m in
     let st = c .before .before .before .before .before .before .before .search-pool .result .state in
@@ -124,15 +124,15 @@ returns c =
     let m = c .before .before .before .before .before .before .before .before .before .before .before .before .before .before .before .before .before .before .pre in
     let lu = length (a .used .now) in
     let lt = length (a .stop .now) in
-    let p = poolOf (a .bytes) (a .t1 .g) (a .t1 .pools) in
+    let p = poolOf (a .bytes) (a .t1 .granularity) (a .t1 .poolcount) in
     let n = unitsOf (a .bytes) (poolAt (a .t1) p .granularity) in
     let pos = some-units (a .t1) lu lt (a .bytes) m in
     let st = c .before .before .before .before .before .before .before .before .before .before .before .search-pool .result .state in
     let j = c .before .before .before .before .before .before .before .before .hit .given .0 .0 in
     let i = c .before .before .before .before .before .before .before .before .hit .given .0 .1 .0 in
-    c .before .before .before .before .mark-span .ensures ∙ ap (λ (k : ℕ). markTurn st (a .used .now) (a .stop .now) j i k) (units-are (c .before .before .before .before .before .before .before .before .before .before .before .before .before))
-    ∙ ap (searchedTurn st (a .used .now) (a .stop .now) p n (a .bytes)) (sym (c .before .before .before .before .before .before .before .before .hit .given .1))
-    ∙ ap (λ (x : Searched). searchedTurn (x .state) (a .used .now) (a .stop .now) p n (a .bytes) (x .hit)) (found-is (c .before .before .before .before .before .before .before .before .before .before .before))
+    c .before .before .before .before .mark-span .ensures ∙ ap (λ (k : ℕ). allocMarked st (a .used .now) (a .stop .now) j i k) (units-are (c .before .before .before .before .before .before .before .before .before .before .before .before .before))
+    ∙ ap (allocSearched st (a .used .now) (a .stop .now) p n (a .bytes)) (sym (c .before .before .before .before .before .before .before .before .hit .given .1))
+    ∙ ap (λ (x : Searched). allocSearched (x .state) (a .used .now) (a .stop .now) p n (a .bytes) (x .hit)) (found-is (c .before .before .before .before .before .before .before .before .before .before .before))
 
 returns-2 : tie.Need-returns-2
 returns-2 c =
@@ -140,16 +140,16 @@ returns-2 c =
     let m = c .before .before .before .before .before .before .before .before .before .before .before .before .before .before .before .before .before .before .before .pre in
     let lu = length (a .used .now) in
     let lt = length (a .stop .now) in
-    let p = poolOf (a .bytes) (a .t1 .g) (a .t1 .pools) in
+    let p = poolOf (a .bytes) (a .t1 .granularity) (a .t1 .poolcount) in
     let n = unitsOf (a .bytes) (poolAt (a .t1) p .granularity) in
     let pos = some-units (a .t1) lu lt (a .bytes) m in
     let st = c .before .before .before .before .before .before .before .before .before .before .before .before .search-pool .result .state in
     let q = c .before .before .before .before .before .before .before .before .before .before .before .before .before .before .before .before .size-to-pool-id .result in
     c .before .before .before .before .new-span .ensures
-    ∙ ap (newTurn st (a .used .now) (a .stop .now) q (c .before .before .before .before .before .before .before .before .before .before .before .before .before .before .area-size-from-byte-size .result)) (c .before .before .before .before .before .before .before .calculate-ideal-block-size .ensures ∙ ap (λ (k : ℕ). idealSize k (a .bytes)) (c .before .before .before .before .before .before .before .before .newest-size .ensures))
-    ∙ ap₂ (λ (i k : ℕ). newTurn st (a .used .now) (a .stop .now) i k (idealSize (newestSize st i) (a .bytes))) (c .before .before .before .before .before .before .before .before .before .before .before .before .before .before .before .before .size-to-pool-id .ensures) (units-are (c .before .before .before .before .before .before .before .before .before .before .before .before .before .before))
-    ∙ ap (searchedTurn st (a .used .now) (a .stop .now) p n (a .bytes)) (sym (c .before .before .before .before .before .before .before .before .before .enum-told .given .1))
-    ∙ ap (λ (x : Searched). searchedTurn (x .state) (a .used .now) (a .stop .now) p n (a .bytes) (x .hit)) (found-is (c .before .before .before .before .before .before .before .before .before .before .before .before))
+    ∙ ap (allocNew st (a .used .now) (a .stop .now) q (c .before .before .before .before .before .before .before .before .before .before .before .before .before .before .area-size-from-byte-size .result)) (c .before .before .before .before .before .before .before .calculate-ideal-block-size .ensures ∙ ap (λ (k : ℕ). idealSize k (a .bytes)) (c .before .before .before .before .before .before .before .before .newest-size .ensures))
+    ∙ ap₂ (λ (i k : ℕ). allocNew st (a .used .now) (a .stop .now) i k (idealSize (newestSize st i) (a .bytes))) (c .before .before .before .before .before .before .before .before .before .before .before .before .before .before .before .before .size-to-pool-id .ensures) (units-are (c .before .before .before .before .before .before .before .before .before .before .before .before .before .before))
+    ∙ ap (allocSearched st (a .used .now) (a .stop .now) p n (a .bytes)) (sym (c .before .before .before .before .before .before .before .before .before .enum-told .given .1))
+    ∙ ap (λ (x : Searched). allocSearched (x .state) (a .used .now) (a .stop .now) p n (a .bytes) (x .hit)) (found-is (c .before .before .before .before .before .before .before .before .before .before .before .before))
 
 enum-known-hit : tie.Need-enum-known-hit
 enum-known-hit c = search needs

@@ -21,7 +21,7 @@ with-span-requires c κs = let m = c .before .before .before .before .before .be
 returns : tie.Need-returns
 returns c =
     let a = c .before .before .before .before .before .before .before .before .before .before .before .before .args in
-    let m = c .before .before .before .before .before .mark-allocated-area .ensures ∙ ap (λ (b : Block). markAllocated (a .s .w) b (a .i) (a .i + a .n) (a .used .now) (a .stop .now)) (c .before .before .before .before .before .before .before .before .before .block-at .ensures) in
+    let m = c .before .before .before .before .before .mark-allocated-area .ensures ∙ ap (λ (b : Block). markAllocated (a .s .w) b (a .from) (a .from + a .n) (a .used .now) (a .stop .now)) (c .before .before .before .before .before .before .before .before .before .block-at .ensures) in
     rw (c .before .before .before .before .before .before .before .before .span-from .ensures, c .with-span .ensures, ap (λ (x : Painted). x .block) m, ap (λ (x : Painted). x .used) m, ap (λ (x : Painted). x .stop) m)
 
 add-mark-allocated-area : tie.Need-add-mark-allocated-area

@@ -12,16 +12,16 @@ use Rattle.alloc_mark.proofs.span_from.Statement.{statement}
 use Rattle.alloc_mark.proofs.span_from.Tie as tie
 
 -- no unit of the block is further than its end
-low : (c : tie.Start) (k : ℕ) → k ≤ c .args .i + c .args .n → let b = blockAt (c .args .s) (c .args .j) in k * unitOf (c .args .s) b ≤ b .area * unitOf (c .args .s) b
+low : (c : tie.Start) (k : ℕ) → k ≤ c .args .from + c .args .n → let b = blockAt (c .args .s) (c .args .j) in k * unitOf (c .args .s) b ≤ b .area * unitOf (c .args .s) b
 low c k h = let b = blockAt (c .args .s) (c .args .j) in mul-le-mul-right {m = k} {n = b .area} (unitOf (c .args .s) b) (omega (arith, c .pre .2))
 
-fits : (c : tie.Start) → let b = blockAt (c .args .s) (c .args .j) in (b .base + c .args .i * unitOf (c .args .s) b < 2 ^ 64) × (c .args .n * unitOf (c .args .s) b < 2 ^ 64)
-fits c = (omega (arith, c .pre .3, low c (c .args .i) (omega arith)), omega (arith, c .pre .3, low c (c .args .n) (omega arith)))
+fits : (c : tie.Start) → let b = blockAt (c .args .s) (c .args .j) in (b .base + c .args .from * unitOf (c .args .s) b < 2 ^ 64) × (c .args .n * unitOf (c .args .s) b < 2 ^ 64)
+fits c = (omega (arith, c .pre .3, low c (c .args .from) (omega arith)), omega (arith, c .pre .3, low c (c .args .n) (omega arith)))
 
 base : (c : tie.After-block-at) → c .block-at .result .base ≡ blockAt (c .before .args .s) (c .before .args .j) .base
 base c = ap (λ (b : Block). b .base) (c .block-at .ensures)
 
-before : (c : tie.After-span-at) → c .span-at .result .size ≡ bytesOf (c .before .before .args .i) (unitOf (c .before .before .args .s) (blockAt (c .before .before .args .s) (c .before .before .args .j)))
+before : (c : tie.After-span-at) → c .span-at .result .size ≡ bytesOf (c .before .before .args .from) (unitOf (c .before .before .args .s) (blockAt (c .before .before .args .s) (c .before .before .args .j)))
 before c = ap (λ (x : Span). x .size) (c .span-at .ensures)
 
 span-at-requires : tie.Need-span-at-requires

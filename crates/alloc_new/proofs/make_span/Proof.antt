@@ -4,7 +4,7 @@ use mathlib.Core.Path.{sym, ap, ap₂, subst, _∙_}
 use lib.ListN.{length}
 use Rattle.state.specs.declared.State.{State}
 use Rattle.state.specs.Change.{inserted}
-use Rattle.machine.specs.Alloc.{markTurn}
+use Rattle.machine.specs.Alloc.{allocMarked}
 use Rattle.shape_facts.specs.Ready.{Markable}
 use Rattle.shape_facts.proofs.Made.{length-cleared, made}
 use borrow.Author.Needs.{needs}
@@ -41,8 +41,8 @@ returns : tie.Need-returns
 returns c =
     let a = c .before .before .before .before .before .before .before .before .before .before .before .before .before .before .before .before .before .before .args in
     c .before .before .before .before .mark-span .ensures
-    ∙ ap (λ (r : State). markTurn r (c .before .before .before .before .before .before .before .before .before .before .before .before .before .before .clear-slot .last .0) (c .before .before .before .before .before .before .before .before .before .before .clear-slot2 .last .0) (a .s .count) 0 (a .n)) (c .before .before .before .before .before .before .before .insert-block .ensures)
-    ∙ ap₂ (λ (u t : List ℕ). markTurn (inserted (a .s) (a .b)) u t (a .s .count) 0 (a .n)) (c .before .before .before .before .before .before .before .before .before .before .before .before .before .before .clear-slot .ensures) (c .before .before .before .before .before .before .before .before .before .before .clear-slot2 .ensures)
+    ∙ ap (λ (r : State). allocMarked r (c .before .before .before .before .before .before .before .before .before .before .before .before .before .before .clear-slot .last .0) (c .before .before .before .before .before .before .before .before .before .before .clear-slot2 .last .0) (a .s .count) 0 (a .n)) (c .before .before .before .before .before .before .before .insert-block .ensures)
+    ∙ ap₂ (λ (u t : List ℕ). allocMarked (inserted (a .s) (a .b)) u t (a .s .count) 0 (a .n)) (c .before .before .before .before .before .before .before .before .before .before .before .before .before .before .clear-slot .ensures) (c .before .before .before .before .before .before .before .before .before .before .clear-slot2 .ensures)
 
 pub make-span-spec : {M : Type 1} → statement M
 make-span-spec =

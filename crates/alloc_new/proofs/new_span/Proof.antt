@@ -23,7 +23,7 @@ use Rattle.state.specs.Find.{lowestSlot, lowestPlace}
 use Rattle.state.specs.Change.{inserted}
 use Rattle.state.proofs.Lengths.{blocks-64, order-64, pool-3}
 use Rattle.machine.specs.Turn.{turn, refuse, clearSlot}
-use Rattle.machine.specs.Alloc.{markTurn, makeTurn, placeTurn, newTurn}
+use Rattle.machine.specs.Alloc.{allocMarked, allocMade, allocPlaced, allocNew}
 use Rattle.shape_facts.proofs.Facts.{arranged, slotted}
 use Rattle.shape_facts.specs.Ready.{Makeable}
 use Rattle.shape_facts.proofs.New.{unit-low, bytes-range, span-fits, makeable}
@@ -33,8 +33,8 @@ use Rattle.alloc_new.proofs.new_span.Tie as tie
 
 -- the rule goes by what the lookups found
 by-place : (s : State) (u t : List ℕ) (p n bytes : ℕ) (pl : Place) (sl : Found) → pl ≡ lowestPlace s bytes → sl ≡ lowestSlot s
-    → placeTurn s u t p n bytes pl sl ≡ newTurn s u t p n bytes
-by-place s u t p n bytes pl sl e f = ap₂ (λ (x : Place) (y : Found). placeTurn s u t p n bytes x y) e f
+    → allocPlaced s u t p n bytes pl sl ≡ allocNew s u t p n bytes
+by-place s u t p n bytes pl sl e f = ap₂ (λ (x : Place) (y : Found). allocPlaced s u t p n bytes x y) e f
 
 area : (c : tie.After-area-size-from-byte-size) → c .area-size-from-byte-size .result ≡ unitsOf (c .before .before .before .before .before .before .before .before .before .before .before .before .args .bytes) (poolAt (c .before .before .before .before .before .before .before .before .before .before .before .before .args .s) (c .before .before .before .before .before .before .before .before .before .before .before .before .args .p) .granularity)
 area c = c .area-size-from-byte-size .ensures ∙ ap (λ (q : Pool). unitsOf (c .before .before .before .before .before .before .before .before .before .before .before .before .args .bytes) (q .granularity)) (c .before .pool-at .ensures)
@@ -75,7 +75,7 @@ returns-3 c =
     let words = c .before .before .before .area-size-from-byte-size2 .ensures ∙ ap (λ (x : ℕ). unitsOf x 32) (area (c .before .before .before .before)) in
     let e : leb (unitsOf (unitsOf (a .bytes) unit) 32) (a .s .w) ≡ false = lt-leb (unitsOf (unitsOf (a .bytes) unit) 32) (a .s .w) (omega (arith, words, c .before .if1 .taken)) in
     ap (λ (o : Outcome). turn (o .answer) (o .state) (a .used .now) (a .stop .now)) (c .refused3 .ensures)
-    ∙ sym (ap (λ (b : Bool). pick b (makeTurn (a .s) (a .used .now) (a .stop .now) (a .p) (a .n) (a .bytes) at k) (refuse NoMapping (a .s) (a .used .now) (a .stop .now))) e)
+    ∙ sym (ap (λ (b : Bool). pick b (allocMade (a .s) (a .used .now) (a .stop .now) (a .p) (a .n) (a .bytes) at k) (refuse NoMapping (a .s) (a .used .now) (a .stop .now))) e)
     ∙ by-place (a .s) (a .used .now) (a .stop .now) (a .p) (a .n) (a .bytes) (Address at) (At k) (sym (c .before .before .before .before .before .before .before .before .before .before .before .place .given .1) ∙ c .before .before .before .before .before .before .before .before .before .before .before .before .before .lowest-place .ensures) (sym (c .before .before .before .before .before .before .before .slot .given .1) ∙ c .before .before .before .before .before .before .before .before .before .lowest-free-slot .ensures)
 
 new-block-requires : tie.Need-new-block-requires
@@ -105,8 +105,8 @@ returns-4 c =
     let b = c .before .before .before .before .before .before .before .new-block .ensures ∙ ap (λ (x : ℕ). fresh at (a .bytes) (a .p) k x (a .n)) (area (c .before .before .before .before .before .before .before .before .before .before .before)) in
     let e : leb (unitsOf (unitsOf (a .bytes) unit) 32) (a .s .w) ≡ true = le-leb (unitsOf (unitsOf (a .bytes) unit) 32) (a .s .w) (omega (arith, words, c .before .before .before .before .before .before .before .before .if1 .left)) in
     c .before .before .before .before .make-span .ensures
-    ∙ ap (λ (x : Block). markTurn (inserted (a .s) x) (clearSlot (a .s .w) (x .slot) (a .used .now)) (clearSlot (a .s .w) (x .slot) (a .stop .now)) (a .s .count) 0 (a .n)) b
-    ∙ sym (ap (λ (b : Bool). pick b (makeTurn (a .s) (a .used .now) (a .stop .now) (a .p) (a .n) (a .bytes) at k) (refuse NoMapping (a .s) (a .used .now) (a .stop .now))) e)
+    ∙ ap (λ (x : Block). allocMarked (inserted (a .s) x) (clearSlot (a .s .w) (x .slot) (a .used .now)) (clearSlot (a .s .w) (x .slot) (a .stop .now)) (a .s .count) 0 (a .n)) b
+    ∙ sym (ap (λ (b : Bool). pick b (allocMade (a .s) (a .used .now) (a .stop .now) (a .p) (a .n) (a .bytes) at k) (refuse NoMapping (a .s) (a .used .now) (a .stop .now))) e)
     ∙ by-place (a .s) (a .used .now) (a .stop .now) (a .p) (a .n) (a .bytes) (Address at) (At k) (sym (c .before .before .before .before .before .before .before .before .before .before .before .before .before .before .before .before .before .before .place .given .1) ∙ c .before .before .before .before .before .before .before .before .before .before .before .before .before .before .before .before .before .before .before .before .lowest-place .ensures) (sym (c .before .before .before .before .before .before .before .before .before .before .before .before .before .before .slot .given .1) ∙ c .before .before .before .before .before .before .before .before .before .before .before .before .before .before .before .before .lowest-free-slot .ensures)
 
 enum-known-place : tie.Need-enum-known-place

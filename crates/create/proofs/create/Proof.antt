@@ -18,7 +18,7 @@ use Rattle.create.proofs.create.Statement.{statement}
 use Rattle.create.proofs.create.Tie as tie
 
 -- what is asked for is granted
-good : (c : tie.Else1) → let a = c .before .before .before .before .args in grantable (asked (a .size) (a .g) (a .flags) (a .w) (a .arena) (a .length)) (length (a .used .now)) (length (a .stop .now)) ≡ true
+good : (c : tie.Else1) → let a = c .before .before .before .before .args in grantable (asked (a .size) (a .granularity) (a .flags) (a .w) (a .arena) (a .length)) (length (a .used .now)) (length (a .stop .now)) ≡ true
 good c = sym (c .before .is-grantable .ensures) ∙ not-false (c .before .is-grantable .result) (c .if1 .left)
 
 -- the words that are cleared lie in both slices
@@ -33,13 +33,13 @@ returns : tie.Need-returns
 returns c =
     let a = c .before .before .before .before .before .args in
     ap (λ (o : Outcome). turn (o .answer) (o .state) (a .used .now) (a .stop .now)) (c .not-granted .ensures)
-    ∙ refused-is (asked (a .size) (a .g) (a .flags) (a .w) (a .arena) (a .length)) (a .used .now) (a .stop .now) zeroState (sym (c .before .before .is-grantable .ensures) ∙ not-true (c .before .before .is-grantable .result) (c .before .if1 .taken)) refl
+    ∙ refused-is (asked (a .size) (a .granularity) (a .flags) (a .w) (a .arena) (a .length)) (a .used .now) (a .stop .now) zeroState (sym (c .before .before .is-grantable .ensures) ∙ not-true (c .before .before .is-grantable .result) (c .before .if1 .taken)) refl
 
 slots-of-requires : tie.Need-slots-of-requires
-slots-of-requires c κs = let a = c .before .before .before .before .args in words-low (asked (a .size) (a .g) (a .flags) (a .w) (a .arena) (a .length)) (length (a .used .now)) (length (a .stop .now)) (good (c))
+slots-of-requires c κs = let a = c .before .before .before .before .args in words-low (asked (a .size) (a .granularity) (a .flags) (a .w) (a .arena) (a .length)) (length (a .used .now)) (length (a .stop .now)) (good (c))
 
 mul-n : tie.Need-mul-n
-mul-n c = let a = c .before .before .before .before .before .args in omega (arith, ap (λ (n : ℕ). n * a .w) (c .slots-of .ensures), slots-few (a .w) (length (a .used .now)) (length (a .stop .now)) (words-high (asked (a .size) (a .g) (a .flags) (a .w) (a .arena) (a .length)) (length (a .used .now)) (length (a .stop .now)) (good (c .before))))
+mul-n c = let a = c .before .before .before .before .before .args in omega (arith, ap (λ (n : ℕ). n * a .w) (c .slots-of .ensures), slots-few (a .w) (length (a .used .now)) (length (a .stop .now)) (words-high (asked (a .size) (a .granularity) (a .flags) (a .w) (a .arena) (a .length)) (length (a .used .now)) (length (a .stop .now)) (good (c .before))))
 
 clear-words-requires : tie.Need-clear-words-requires
 clear-words-requires c κs = room (c .before) .0
@@ -51,7 +51,7 @@ returns-2 : tie.Need-returns-2
 returns-2 c =
     let a = c .before .before .before .before .before .before .before .before .before .before .before .before .before .before .before .args in
     ap₂ (λ (x : Answer) (y : State). turn x y (c .before .before .before .before .before .before .before .before .clear-words .last .0) (c .before .before .before .before .clear-words2 .last .0)) (c .created .ensures .1) (c .created .ensures .0)
-    ∙ granted-is (asked (a .size) (a .g) (a .flags) (a .w) (a .arena) (a .length)) (a .used .now) (a .stop .now) (c .before .fresh-state .result) (c .before .before .before .before .before .before .before .before .before .before .slots-of .result) (c .before .before .before .before .before .before .before .before .clear-words .last .0) (c .before .before .before .before .clear-words2 .last .0)
+    ∙ granted-is (asked (a .size) (a .granularity) (a .flags) (a .w) (a .arena) (a .length)) (a .used .now) (a .stop .now) (c .before .fresh-state .result) (c .before .before .before .before .before .before .before .before .before .before .slots-of .result) (c .before .before .before .before .before .before .before .before .clear-words .last .0) (c .before .before .before .before .clear-words2 .last .0)
     (good (c .before .before .before .before .before .before .before .before .before .before .before)) (c .before .before .before .before .before .before .before .before .before .before .slots-of .ensures) (c .before .fresh-state .ensures) (c .before .before .before .before .before .before .before .before .clear-words .ensures) (c .before .before .before .before .clear-words2 .ensures)
 
 is-grantable-requires : tie.Need-is-grantable-requires

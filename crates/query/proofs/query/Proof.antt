@@ -15,7 +15,7 @@ use Rattle.state.specs.Shape.{goodShape}
 use Rattle.state.specs.Find.{holds, lookup}
 use Rattle.shape.specs.Shaped.{Shaped}
 use Rattle.shape.proofs.Shaped.{shaped-is}
-use Rattle.machine.specs.Span.{shownTurn, queriedTurn, queryTurn}
+use Rattle.machine.specs.Span.{queryHeld, queryFound, queryTurn}
 use Rattle.shape_facts.proofs.Facts.{ordered, askable, found-in, held-in-range, spannable}
 use borrow.Author.Needs.{needs}
 use Rattle.query.proofs.query.Statement.{statement}
@@ -30,7 +30,7 @@ shaped c = let a = c .before .before .before .before .args in shaped-is (a .s) (
 
 -- so the rule goes by the lookup
 looked : (c : tie.Else1) → let a = c .before .before .before .before .args in
-    queriedTurn (a .s) (a .used .now) (a .stop .now) (a .address) (lookup (a .s) (a .address)) ≡ queryTurn (a .s) (a .used .now) (a .stop .now) (a .address)
+    queryFound (a .s) (a .used .now) (a .stop .now) (a .address) (lookup (a .s) (a .address)) ≡ queryTurn (a .s) (a .used .now) (a .stop .now) (a .address)
 unfolding queryTurn
 looked c = rw (good c)
 
@@ -42,12 +42,12 @@ here c = let a = c .before .before .before .before .before .before .before .befo
 
 -- and by what stands there
 shown : (c : tie.After-held-in) (r : Held) → c .held-in .result ≡ r → let a = c .before .before .before .before .before .before .before .before .before .args in
-    shownTurn (a .s) (a .used .now) (a .stop .now) (a .address) (c .before .before .found .given .0 .0) r .answer
+    queryHeld (a .s) (a .used .now) (a .stop .now) (a .address) (c .before .before .found .given .0 .0) r .answer
     ≡ queryTurn (a .s) (a .used .now) (a .stop .now) (a .address) .answer
 shown c r e =
     let a = c .before .before .before .before .before .before .before .before .before .args in
-    ap (λ (h : Held). shownTurn (a .s) (a .used .now) (a .stop .now) (a .address) (c .before .before .found .given .0 .0) h .answer) (sym e ∙ c .held-in .ensures)
-    ∙ ap (λ (f : Found). queriedTurn (a .s) (a .used .now) (a .stop .now) (a .address) f .answer) (sym (c .before .before .found .given .1) ∙ c .before .before .before .before .lookup-block .ensures)
+    ap (λ (h : Held). queryHeld (a .s) (a .used .now) (a .stop .now) (a .address) (c .before .before .found .given .0 .0) h .answer) (sym e ∙ c .held-in .ensures)
+    ∙ ap (λ (f : Found). queryFound (a .s) (a .used .now) (a .stop .now) (a .address) f .answer) (sym (c .before .before .found .given .1) ∙ c .before .before .before .before .lookup-block .ensures)
     ∙ ap (λ (r : Turn). r .answer) (looked (c .before .before .before .before .before))
 
 -- its units
@@ -82,7 +82,7 @@ enum-told c = search needs
 returns-2 : tie.Need-returns-2
 returns-2 c =
     let a = c .before .before .before .before .before .before .before .args in
-    ap (λ (f : Found). queriedTurn (a .s) (a .used .now) (a .stop .now) (a .address) f .answer) (sym (c .enum-told .given .1) ∙ c .before .before .lookup-block .ensures)
+    ap (λ (f : Found). queryFound (a .s) (a .used .now) (a .stop .now) (a .address) f .answer) (sym (c .enum-told .given .1) ∙ c .before .before .lookup-block .ensures)
     ∙ ap (λ (r : Turn). r .answer) (looked (c .before .before .before))
 
 held-in-requires : tie.Need-held-in-requires

@@ -13,7 +13,7 @@ use Rattle.state.specs.Find.{holds, lookup}
 use Rattle.shape.specs.Shaped.{Shaped}
 use Rattle.shape.proofs.Shaped.{shaped-is}
 use Rattle.machine.specs.Turn.{turn, unitOf}
-use Rattle.machine.specs.Release.{releasedTurn, givenBackTurn, releaseTurn}
+use Rattle.machine.specs.Release.{releaseHeld, releaseFound, releaseTurn}
 use Rattle.shape_facts.proofs.Facts.{ordered, askable, found-in, held-in-range}
 use borrow.Author.Needs.{needs}
 use Rattle.release.proofs.release.Statement.{statement}
@@ -28,7 +28,7 @@ shaped c = let a = c .before .before .before .before .args in shaped-is (a .s) (
 
 -- so the rule goes by the lookup
 looked : (c : tie.Else2) → let a = c .before .before .before .before .before .args in
-    givenBackTurn (a .s) (a .used .now) (a .stop .now) (a .address) (lookup (a .s) (a .address)) ≡ releaseTurn (a .s) (a .used .now) (a .stop .now) (a .address)
+    releaseFound (a .s) (a .used .now) (a .stop .now) (a .address) (lookup (a .s) (a .address)) ≡ releaseTurn (a .s) (a .used .now) (a .stop .now) (a .address)
 unfolding releaseTurn
 looked c = rw (good (c .before), ne-eqb (c .before .before .before .before .before .args .address) 0 (c .if2 .left))
 
@@ -40,12 +40,12 @@ here c = let a = c .before .before .before .before .before .before .before .befo
 
 -- and by what stands there
 shown : (c : tie.After-held-in) (r : Held) → c .held-in .result ≡ r → let a = c .before .before .before .before .before .before .before .before .before .before .before .before .args in
-    releasedTurn (a .s) (a .used .now) (a .stop .now) (a .address) (c .before .before .before .before .found .given .0 .0) r
+    releaseHeld (a .s) (a .used .now) (a .stop .now) (a .address) (c .before .before .before .before .found .given .0 .0) r
     ≡ releaseTurn (a .s) (a .used .now) (a .stop .now) (a .address)
 shown c r e =
     let a = c .before .before .before .before .before .before .before .before .before .before .before .before .args in
-    ap (λ (h : Held). releasedTurn (a .s) (a .used .now) (a .stop .now) (a .address) (c .before .before .before .before .found .given .0 .0) h) (sym e ∙ c .held-in .ensures)
-    ∙ ap (λ (f : Found). givenBackTurn (a .s) (a .used .now) (a .stop .now) (a .address) f) (sym (c .before .before .before .before .found .given .1) ∙ c .before .before .before .before .before .before .lookup-block .ensures)
+    ap (λ (h : Held). releaseHeld (a .s) (a .used .now) (a .stop .now) (a .address) (c .before .before .before .before .found .given .0 .0) h) (sym e ∙ c .held-in .ensures)
+    ∙ ap (λ (f : Found). releaseFound (a .s) (a .used .now) (a .stop .now) (a .address) f) (sym (c .before .before .before .before .found .given .1) ∙ c .before .before .before .before .before .before .lookup-block .ensures)
     ∙ looked (c .before .before .before .before .before .before .before)
 
 -- its units
@@ -79,7 +79,7 @@ returns-3 : tie.Need-returns-3
 returns-3 c =
     let a = c .before .before .before .before .before .before .before .before .before .args in
     ap (λ (o : Outcome). turn (o .answer) (o .state) (a .used .now) (a .stop .now)) (c .refused3 .ensures)
-    ∙ ap (λ (f : Found). givenBackTurn (a .s) (a .used .now) (a .stop .now) (a .address) f) (sym (c .before .enum-told .given .1) ∙ c .before .before .before .lookup-block .ensures)
+    ∙ ap (λ (f : Found). releaseFound (a .s) (a .used .now) (a .stop .now) (a .address) f) (sym (c .before .enum-told .given .1) ∙ c .before .before .before .lookup-block .ensures)
     ∙ looked (c .before .before .before .before)
 
 held-in-requires : tie.Need-held-in-requires
@@ -87,8 +87,8 @@ held-in-requires c κs =
     let a = c .before .before .before .before .before .before .before .before .before .before .before .args in
     askable (a .s) (length (a .used .now)) (length (a .stop .now)) (shaped (c .before .before .before .before .before .before .before)) (c .before .before .before .found .given .0 .0) (a .address) (here (c .before .before) .0) (here (c .before .before) .1)
 
-give-back-requires : tie.Need-give-back-requires
-give-back-requires c κs = (shaped (c .before .before .before .before .before .before .before .before .before .before .before .before .before), here (c .before .before .before .before .before .before .before .before) .0, range (c .before .before .before))
+release-span-requires : tie.Need-release-span-requires
+release-span-requires c κs = (shaped (c .before .before .before .before .before .before .before .before .before .before .before .before .before), here (c .before .before .before .before .before .before .before .before) .0, range (c .before .before .before))
 
 returns-4 : tie.Need-returns-4
 returns-4 c =
@@ -103,7 +103,7 @@ returns-5 c =
 returns-6 : tie.Need-returns-6
 returns-6 c =
     let g = c .before .before .before .before .before .before .before .before .held .given .0 in
-    c .before .before .before .before .give-back .ensures ∙ shown (c .before .before .before .before .before .before .before .before .before .before) (Units (g .0) (g .1 .0)) (c .before .before .before .before .before .before .before .before .held .given .1)
+    c .before .before .before .before .release-span .ensures ∙ shown (c .before .before .before .before .before .before .before .before .before .before) (Units (g .0) (g .1 .0)) (c .before .before .before .before .before .before .before .before .held .given .1)
 
 shape-ok-requires : tie.Need-shape-ok-requires
 shape-ok-requires c κs = search needs
@@ -182,7 +182,7 @@ release-spec =
     same-length-4
     returns-5
     enum-known-held
-    give-back-requires
+    release-span-requires
     same-length-5
     same-length-6
     returns-6)

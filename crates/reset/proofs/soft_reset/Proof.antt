@@ -37,8 +37,8 @@ clear-blocks-requires c κs = let a = c .before .before .before .before .before 
 clear-blocks-requires-2 : tie.Need-clear-blocks-requires-2
 clear-blocks-requires-2 c κs = let a = c .before .before .before .before .before .before .before .before .before .args in clearable-stop (a .s) (length (a .used .now)) (length (a .stop .now)) (shaped (c .before .before .before .before .before))
 
-soften-requires : tie.Need-soften-requires
-soften-requires c κs = let a = c .before .before .before .before .before .before .before .before .before .before .before .before .args in keepable (a .s) (length (a .used .now)) (length (a .stop .now)) (shaped (c .before .before .before .before .before .before .before .before))
+soft-reset-table-requires : tie.Need-soft-reset-table-requires
+soft-reset-table-requires c κs = let a = c .before .before .before .before .before .before .before .before .before .before .before .before .args in keepable (a .s) (length (a .used .now)) (length (a .stop .now)) (shaped (c .before .before .before .before .before .before .before .before))
 
 same-length : tie.Need-same-length
 same-length c = search needs
@@ -49,8 +49,8 @@ same-length-2 c = search needs
 returns-2 : tie.Need-returns-2
 returns-2 c =
     let a = c .before .before .before .before .before .before .before .before .before .before .before .before .before .args in
-    done-is (a .s) (a .used .now) (a .stop .now) false (c .soften .result) (c .before .before .before .before .before .before .before .clear-blocks .last .1 .0) (c .before .before .before .clear-blocks2 .last .1 .0)
-    (good (c .before .before .before .before .before .before .before .before .before)) (c .soften .ensures) (c .before .before .before .before .before .before .before .clear-blocks .ensures) (c .before .before .before .clear-blocks2 .ensures)
+    done-is (a .s) (a .used .now) (a .stop .now) false (c .soft-reset-table .result) (c .before .before .before .before .before .before .before .clear-blocks .last .1 .0) (c .before .before .before .clear-blocks2 .last .1 .0)
+    (good (c .before .before .before .before .before .before .before .before .before)) (c .soft-reset-table .ensures) (c .before .before .before .before .before .before .before .clear-blocks .ensures) (c .before .before .before .clear-blocks2 .ensures)
 
 pub soft-reset-spec : {M : Type 1} → statement M
 soft-reset-spec =
@@ -61,7 +61,7 @@ soft-reset-spec =
     returns
     clear-blocks-requires
     clear-blocks-requires-2
-    soften-requires
+    soft-reset-table-requires
     same-length
     same-length-2
     returns-2)

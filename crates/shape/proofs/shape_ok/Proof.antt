@@ -2,7 +2,7 @@
 use mathlib.Core.Path.{sym, _∙_}
 use borrow.Author.Tests.{not-true, not-false}
 use Rattle.shape.proofs.Head.{headed}
-use Rattle.shape.proofs.Sound.{laid}
+use Rattle.shape.proofs.OneBlock.{laid}
 use Rattle.shape.proofs.Shaped.{table-sound}
 use Rattle.shape.proofs.Whole.{head-fails, table-fails, last-part}
 use borrow.Author.Needs.{needs}

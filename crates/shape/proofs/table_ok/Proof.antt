@@ -93,14 +93,14 @@ loop-again c =
     subst (λ (q : Pool). Walked s (i + 1) (set (c .before .before .before .before .before .before .before .before .loop .seen) (b .slot) true) (set (c .before .before .before .before .before .before .before .before .loop .sums) (b .pool) q) (c .before .before .before .before .before .before .before .before .loop .used + b .used)) (sym (c .before .count-in .ensures))
     (walk-step (c .before .before .before .before .before .before .before .before .before .before .pre) (c .before .before .before .before .before .before .before .before .loop .inv) (c .before .before .before .before .before .before .before .loop-test .taken) (good (c .before .before .before .before)) (c .before .before .before .if2 .left))
 
-pools-like-requires : tie.Need-pools-like-requires Inv-loop μ-loop
-pools-like-requires c κs = search needs
+pools-match-requires : tie.Need-pools-match-requires Inv-loop μ-loop
+pools-match-requires c κs = search needs
 
 returns-3 : tie.Need-returns-3 Inv-loop μ-loop
-returns-3 c = sym (pools-fail (whole (c .before .before .before)) (sym (c .before .pools-like .ensures) ∙ not-true (c .before .pools-like .result) (c .if3 .taken)))
+returns-3 c = sym (pools-fail (whole (c .before .before .before)) (sym (c .before .pools-match .ensures) ∙ not-true (c .before .pools-match .result) (c .if3 .taken)))
 
 returns-4 : tie.Need-returns-4 Inv-loop μ-loop
-returns-4 c = walk-done (whole (c .before .before .before)) (sym (c .before .pools-like .ensures) ∙ not-false (c .before .pools-like .result) (c .if3 .left))
+returns-4 c = walk-done (whole (c .before .before .before)) (sym (c .before .pools-match .ensures) ∙ not-false (c .before .pools-match .result) (c .if3 .left))
 
 pub table-ok-spec : {M : Type 1} → statement M
 table-ok-spec =
@@ -127,6 +127,6 @@ table-ok-spec =
     add-i
     loop-less
     loop-again
-    pools-like-requires
+    pools-match-requires
     returns-3
     returns-4)

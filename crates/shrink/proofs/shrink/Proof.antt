@@ -15,7 +15,7 @@ use Rattle.state.specs.Find.{holds, lookup}
 use Rattle.shape.specs.Shaped.{Shaped}
 use Rattle.shape.proofs.Shaped.{shaped-is}
 use Rattle.machine.specs.Turn.{turn, unitOf}
-use Rattle.machine.specs.Shrink.{shrunkTurn, cutDownTurn, shrinkTurn}
+use Rattle.machine.specs.Shrink.{shrinkHeld, shrinkFound, shrinkTurn}
 use Rattle.shape_facts.proofs.Facts.{count-64, ordered, askable, found-in, held-in-range}
 use Rattle.shrink.proofs.Cases.{shrunk-damaged, shrunk-units, shrink-none}
 use borrow.Author.Needs.{needs}
@@ -31,7 +31,7 @@ shaped c = let a = c .before .before .before .before .before .args in shaped-is 
 
 -- so the rule goes by the lookup
 looked : (c : tie.Else3) → let a = c .before .before .before .before .before .before .args in
-    cutDownTurn (a .s) (a .used .now) (a .stop .now) (a .address) (a .size) (lookup (a .s) (a .address))
+    shrinkFound (a .s) (a .used .now) (a .stop .now) (a .address) (a .size) (lookup (a .s) (a .address))
     ≡ shrinkTurn (a .s) (a .used .now) (a .stop .now) (a .address) (a .size)
 unfolding shrinkTurn
 looked c = rw (ne-eqb (c .before .before .before .before .before .before .args .size) 0 (c .before .before .before .if1 .left), good (c .before), ne-eqb (c .before .before .before .before .before .before .args .address) 0 (c .if3 .left))
@@ -44,12 +44,12 @@ here c = let a = c .before .before .before .before .before .before .before .befo
 
 -- and by what stands there
 shown : (c : tie.After-held-in) (r : Held) → c .held-in .result ≡ r → let a = c .before .before .before .before .before .before .before .before .before .before .before .before .before .args in
-    shrunkTurn (a .s) (a .used .now) (a .stop .now) (a .address) (a .size) (c .before .before .before .before .found .given .0 .0) r
+    shrinkHeld (a .s) (a .used .now) (a .stop .now) (a .address) (a .size) (c .before .before .before .before .found .given .0 .0) r
     ≡ shrinkTurn (a .s) (a .used .now) (a .stop .now) (a .address) (a .size)
 shown c r e =
     let a = c .before .before .before .before .before .before .before .before .before .before .before .before .before .args in
-    ap (λ (h : Held). shrunkTurn (a .s) (a .used .now) (a .stop .now) (a .address) (a .size) (c .before .before .before .before .found .given .0 .0) h) (sym e ∙ c .held-in .ensures)
-    ∙ ap (λ (f : Found). cutDownTurn (a .s) (a .used .now) (a .stop .now) (a .address) (a .size) f) (sym (c .before .before .before .before .found .given .1) ∙ c .before .before .before .before .before .before .lookup-block .ensures)
+    ap (λ (h : Held). shrinkHeld (a .s) (a .used .now) (a .stop .now) (a .address) (a .size) (c .before .before .before .before .found .given .0 .0) h) (sym e ∙ c .held-in .ensures)
+    ∙ ap (λ (f : Found). shrinkFound (a .s) (a .used .now) (a .stop .now) (a .address) (a .size) f) (sym (c .before .before .before .before .found .given .1) ∙ c .before .before .before .before .before .before .lookup-block .ensures)
     ∙ looked (c .before .before .before .before .before .before .before)
 
 -- its units
@@ -91,7 +91,7 @@ returns-4 : tie.Need-returns-4
 returns-4 c =
     let a = c .before .before .before .before .before .before .before .before .before .before .args in
     ap (λ (o : Outcome). turn (o .answer) (o .state) (a .used .now) (a .stop .now)) (c .refused3 .ensures)
-    ∙ ap (λ (f : Found). cutDownTurn (a .s) (a .used .now) (a .stop .now) (a .address) (a .size) f) (sym (c .before .enum-told .given .1) ∙ c .before .before .before .lookup-block .ensures)
+    ∙ ap (λ (f : Found). shrinkFound (a .s) (a .used .now) (a .stop .now) (a .address) (a .size) f) (sym (c .before .enum-told .given .1) ∙ c .before .before .before .lookup-block .ensures)
     ∙ looked (c .before .before .before .before)
 
 held-in-requires : tie.Need-held-in-requires
@@ -114,8 +114,8 @@ returns-7 c =
     ∙ shrunk-damaged (a .s) (a .used .now) (a .stop .now) (a .address) (a .size) j (g .0) (g .1 .0) (lt-ltb (blockAt (a .s) j .used) (g .1 .0 - g .0) (omega (arith, c .before .if4 .taken, used-is (c .before .before .before))))
     ∙ shown (c .before .before .before .before .before .before .before) (Units (g .0) (g .1 .0)) (c .before .before .before .before .before .held .given .1)
 
-keep-requires : tie.Need-keep-requires
-keep-requires c κs = ((shaped (c .before .before .before .before .before .before .before .before .before .before .before .before .before .before .before .before), here (c .before .before .before .before .before .before .before .before .before .before .before) .0, range (c .before .before .before .before .before .before)), (omega (arith, c .before .before .if4 .left, used-is (c .before .before .before .before)), omega (arith, c .before .before .before .before .before .before .before .before .before .before .before .before .before .before .before .before .before .before .if1 .left)))
+shrink-span-requires : tie.Need-shrink-span-requires
+shrink-span-requires c κs = ((shaped (c .before .before .before .before .before .before .before .before .before .before .before .before .before .before .before .before), here (c .before .before .before .before .before .before .before .before .before .before .before) .0, range (c .before .before .before .before .before .before)), (omega (arith, c .before .before .if4 .left, used-is (c .before .before .before .before)), omega (arith, c .before .before .before .before .before .before .before .before .before .before .before .before .before .before .before .before .before .before .if1 .left)))
 
 returns-5 : tie.Need-returns-5
 returns-5 c =
@@ -132,7 +132,7 @@ returns-8 c =
     let a = c .before .before .before .before .before .before .before .before .before .before .before .before .before .before .before .before .before .before .before .before .before .before .before .before .before .before .args in
     let j = c .before .before .before .before .before .before .before .before .before .before .before .before .before .before .before .before .before .found .given .0 .0 in
     let g = c .before .before .before .before .before .before .before .before .before .before .before .held .given .0 in
-    c .before .before .before .before .keep .ensures
+    c .before .before .before .before .shrink-span .ensures
     ∙ shrunk-units (a .s) (a .used .now) (a .stop .now) (a .address) (a .size) j (g .0) (g .1 .0) (le-ltb (blockAt (a .s) j .used) (g .1 .0 - g .0) (omega (arith, c .before .before .before .before .before .before .before .if4 .left, used-is (c .before .before .before .before .before .before .before .before .before))))
     ∙ shown (c .before .before .before .before .before .before .before .before .before .before .before .before .before) (Units (g .0) (g .1 .0)) (c .before .before .before .before .before .before .before .before .before .before .before .held .given .1)
 
@@ -241,7 +241,7 @@ shrink-spec =
     same-length-7
     same-length-8
     returns-7
-    keep-requires
+    shrink-span-requires
     same-length-9
     same-length-10
     returns-8)

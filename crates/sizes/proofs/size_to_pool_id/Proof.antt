@@ -7,19 +7,19 @@ use Rattle.sizes.proofs.size_to_pool_id.Statement.{statement}
 use Rattle.sizes.proofs.size_to_pool_id.Tie as tie
 
 abbrev Inv-loop : tie.InvT-loop
-Inv-loop size g pools id₀ granularity₀ id granularity = Walk size g pools id granularity
+Inv-loop size g pools id₀ step₀ id step = Walk size g pools id step
 
 abbrev μ-loop : tie.MeasureT-loop
-μ-loop size g pools id₀ granularity₀ id granularity = id
+μ-loop size g pools id₀ step₀ id step = id
 
 sub-id : tie.Need-sub-id Inv-loop μ-loop
 sub-id c = omega (arith, few _ (c .pre .2))
 
-shl-granularity : tie.Need-shl-granularity Inv-loop μ-loop
-shl-granularity c = omega (arith, few _ (c .pre .2))
+shl-step : tie.Need-shl-step Inv-loop μ-loop
+shl-step c = omega (arith, few _ (c .pre .2))
 
 loop-holds : tie.Need-loop-holds Inv-loop μ-loop
-loop-holds c = walk-starts (c .args .size) (c .args .g) (c .args .pools) (c .pre .0) (c .pre .1) (c .pre .2)
+loop-holds c = walk-starts (c .args .size) (c .args .granularity) (c .args .poolcount) (c .pre .0) (c .pre .1) (c .pre .2)
 
 align-up-requires : tie.Need-align-up-requires Inv-loop μ-loop
 align-up-requires c κs = walk-step (c .before .loop .inv)
@@ -50,7 +50,7 @@ size-to-pool-id-spec =
     Inv-loop
     μ-loop
     sub-id
-    shl-granularity
+    shl-step
     loop-holds
     align-up-requires
     sub-id-2

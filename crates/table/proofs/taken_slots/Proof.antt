@@ -2,13 +2,13 @@ use Prim.Native.Nat.{ℕ, _-_, _≤_}
 use mathlib.Core.Path.{_≡_, subst}
 use native.Mathlib.Omega.{arith}
 use borrow.Author.Needs.{needs}
-use Rattle.table.specs.Ordered.{Taken}
+use Rattle.table.specs.Ordered.{TakenSlots}
 use Rattle.table.proofs.Slot.{taken-none, taken-more}
 use Rattle.table.proofs.taken_slots.Statement.{statement}
 use Rattle.table.proofs.taken_slots.Tie as tie
 
 abbrev Inv-loop : tie.InvT-loop
-Inv-loop s taken₀ i₀ taken i = (i ≤ s .count) × Taken s i taken
+Inv-loop s taken₀ i₀ taken i = (i ≤ s .count) × TakenSlots s i taken
 
 abbrev μ-loop : tie.MeasureT-loop
 μ-loop s taken₀ i₀ taken i = s .count - i
@@ -37,7 +37,7 @@ loop-again c = let l = c .before .before .loop in (omega arith, taken-more (c .b
 returns : tie.Need-returns Inv-loop μ-loop
 returns c =
     let e : c .before .loop .i ≡ c .before .before .args .t1 .count = omega arith in
-    subst (λ (n : ℕ). Taken (c .before .before .args .t1) n (c .before .loop .taken)) e (c .before .loop .inv .1)
+    subst (λ (n : ℕ). TakenSlots (c .before .before .args .t1) n (c .before .loop .taken)) e (c .before .loop .inv .1)
 
 pub taken-slots-spec : {M : Type 1} → statement M
 taken-slots-spec =

@@ -8,7 +8,7 @@ use Rattle.runs.proofs.Seek.{seek-only}
 use Rattle.slots.specs.Slots.{slotOf}
 use Rattle.slots.proofs.Laws.{length-slot}
 use Rattle.block.specs.declared.Looked.the-variants.{Missed}
-use Rattle.block.specs.Search.{looks, looked, lookInto}
+use Rattle.block.specs.Search.{worthSearching, looked, lookInto}
 use borrow.Author.Needs.{needs}
 use Rattle.block.proofs.look.look_into.Statement.{statement}
 use Rattle.block.proofs.look.look_into.Tie as tie
@@ -24,7 +24,7 @@ known : (c : tie.After-search-window) → let a = c .before .before .before .bef
 unfolding lookInto
 known c =
     let a = c .before .before .before .before .before .before .before .args in
-    let e : looks (a .b) (a .n) ≡ true = sym (c .before .before .before .before .before .is-looked-into .ensures) ∙ not-false _ (c .before .before .before .before .if1 .left) in
+    let e : worthSearching (a .b) (a .n) ≡ true = sym (c .before .before .before .before .before .worth-searching .ensures) ∙ not-false _ (c .before .before .before .before .if1 .left) in
     rw e (ap (looked (a .b)) (seek-only (slotOf (a .w) (a .b .slot) (a .used .now)) (a .b .start) (a .b .end) (a .n) (c .search-window .result) (omega (arith, c .before .before .before .before .before .before .before .pre .1)) (sought c)))
 
 -- the answer's numbers are units of the block
@@ -47,12 +47,12 @@ tight c =
     let a = c .before .before .before .before .before .before .before .before .before .args in
     subst (Sought (slotOf (a .w) (a .b .slot) (a .used .now)) (a .b .start) (a .b .end) (a .n)) (c .got2 .given .1) (sought (c .before .before)) .0
 
-is-looked-into-requires : tie.Need-is-looked-into-requires
-is-looked-into-requires c κs = search needs
+worth-searching-requires : tie.Need-worth-searching-requires
+worth-searching-requires c κs = search needs
 
 returns : tie.Need-returns
 unfolding lookInto
-returns c = let e : looks (c .before .before .before .args .b) (c .before .before .before .args .n) ≡ false = sym (c .before .is-looked-into .ensures) ∙ not-true _ (c .if1 .taken) in rw e
+returns c = let e : worthSearching (c .before .before .before .args .b) (c .before .before .before .args .n) ≡ false = sym (c .before .worth-searching .ensures) ∙ not-true _ (c .if1 .taken) in rw e
 
 slot-requires : tie.Need-slot-requires
 slot-requires c κs = search needs
@@ -103,7 +103,7 @@ pub look-into-spec : {M : Type 1} → statement M
 look-into-spec =
     tie.close
     (tie.spec
-    is-looked-into-requires
+    worth-searching-requires
     returns
     slot-requires
     cast-search-window

@@ -8,17 +8,17 @@ use Rattle.state.specs.declared.Span.{Span}
 use Rattle.state.specs.declared.Answer.{Answer}
 use Rattle.state.specs.declared.Answer.the-variants.{Shown}
 use Rattle.machine.specs.Turn.{span}
-use Rattle.filling.specs.Within.{Within, AllWithin}
+use Rattle.filling.specs.InArena.{InArena, AllInArena}
 use Rattle.image.proofs.Image.{filled-none as none-filled}
-use Rattle.filling.specs.Unused.{behind, filled}
+use Rattle.filling.specs.Unused.{behind, filledImage}
 use Rattle.filling.proofs.Unused.{filled-none, filled-one, behind-none}
 use borrow.Author.Needs.{needs}
 use Rattle.filling.proofs.fill.fill_behind.Statement.{statement}
 use Rattle.filling.proofs.fill.fill_behind.Tie as tie
 
 -- the tail lies in the image
-tail : (arena length : ℕ) (x y : Span) (was : Answer) → was ≡ Shown y → AllWithin arena length (behind x was) → Within arena length (span (x .address + x .size) (y .size - x .size))
-tail arena length x y was e w = subst (λ (a : Answer). AllWithin arena length (behind x a)) e w .0
+tail : (arena length : ℕ) (x y : Span) (was : Answer) → was ≡ Shown y → AllInArena arena length (behind x was) → InArena arena length (span (x .address + x .size) (y .size - x .size))
+tail arena length x y was e w = subst (λ (a : Answer). AllInArena arena length (behind x a)) e w .0
 
 enum-known-was : tie.Need-enum-known-was
 enum-known-was c = search needs
@@ -48,19 +48,19 @@ returns c = let a = c .before .before .before .before .before .before .before .b
     let y = c .before .before .before .before .before .before .before .before .before .before .before .was .given in
     c .before .before .fill-span .ensures
     ∙ sym (filled-one (a .arena) (a .pattern) (now (a .image)) (span (a .x .address + a .x .size) (y .0 .0 .size - a .x .size)))
-    ∙ sym (ap (λ (z : Answer). filled (a .arena) (a .pattern) (now (a .image)) (behind (a .x) z)) (y .1))
+    ∙ sym (ap (λ (z : Answer). filledImage (a .arena) (a .pattern) (now (a .image)) (behind (a .x) z)) (y .1))
 
 returns-2 : tie.Need-returns-2
 returns-2 c = let a = c .before .before .before .before .before .before .before .args in
     let y = c .before .before .before .before .was .given in
-    sym (ap (λ (z : Answer). filled (a .arena) (a .pattern) (now (a .image)) (behind (a .x) z)) (y .1)
+    sym (ap (λ (z : Answer). filledImage (a .arena) (a .pattern) (now (a .image)) (behind (a .x) z)) (y .1)
     ∙ filled-one (a .arena) (a .pattern) (now (a .image)) (span (a .x .address + a .x .size) (y .0 .0 .size - a .x .size))
     ∙ ap (λ (k : ℕ). filledAt (now (a .image)) (a .x .address + a .x .size - a .arena) k (a .pattern)) (omega arith)
     ∙ none-filled (now (a .image)) (a .x .address + a .x .size - a .arena) (a .pattern))
 
 returns-3 : tie.Need-returns-3
 returns-3 c = let a = c .before .before .args in
-    sym (ap (filled (a .arena) (a .pattern) (now (a .image))) (behind-none (a .x) (a .was) (c .match .keys2)) ∙ filled-none (a .arena) (a .pattern) (now (a .image)))
+    sym (ap (filledImage (a .arena) (a .pattern) (now (a .image))) (behind-none (a .x) (a .was) (c .match .keys2)) ∙ filled-none (a .arena) (a .pattern) (now (a .image)))
 
 pub fill-behind-spec : {M : Type 1} → statement M
 fill-behind-spec =

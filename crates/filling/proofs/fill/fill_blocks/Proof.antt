@@ -7,13 +7,13 @@ use lib.ListN.{length}
 use Rattle.image.specs.Image.{filledAt}
 use Rattle.block.specs.declared.Block.{Block}
 use Rattle.state.specs.Table.{blockAt}
-use Rattle.filling.specs.Unused.{blocksUpTo, filled}
+use Rattle.filling.specs.Unused.{blocksUpTo, filledImage}
 use Rattle.filling.proofs.Unused.{length-filled-all, blocks-within, filled-more, filled-start}
 use Rattle.filling.proofs.fill.fill_blocks.Statement.{statement}
 use Rattle.filling.proofs.fill.fill_blocks.Tie as tie
 
 abbrev Inv-loop : tie.InvT-loop
-Inv-loop image₀ arena r pattern i₀ image i = (i ≤ r .count) × (image ≡ filled arena pattern image₀ (blocksUpTo r i))
+Inv-loop image₀ arena r pattern i₀ image i = (i ≤ r .count) × (image ≡ filledImage arena pattern image₀ (blocksUpTo r i))
 
 abbrev μ-loop : tie.MeasureT-loop
 μ-loop image₀ arena r pattern i₀ image i = r .count - i
@@ -57,7 +57,7 @@ same-length c = wide (c .before .before)
 returns : tie.Need-returns Inv-loop μ-loop
 returns c = let a = c .before .before .before .before .args in
     let l = c .before .before .loop in
-    l .inv .1 ∙ ap (λ (k : ℕ). filled (a .arena) (a .pattern) (now (a .image)) (blocksUpTo (a .r) k)) (omega arith)
+    l .inv .1 ∙ ap (λ (k : ℕ). filledImage (a .arena) (a .pattern) (now (a .image)) (blocksUpTo (a .r) k)) (omega arith)
 
 pub fill-blocks-spec : {M : Type 1} → statement M
 fill-blocks-spec =

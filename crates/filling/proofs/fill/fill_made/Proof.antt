@@ -6,8 +6,8 @@ use lib.ListN.{length}
 use Rattle.image.specs.Image.{filledAt}
 use Rattle.block.specs.declared.Block.{Block}
 use Rattle.state.specs.Table.{blockAt}
-use Rattle.filling.specs.Unused.{bytesOfBlock, filled}
-use Rattle.filling.specs.Within.{AllWithin}
+use Rattle.filling.specs.Unused.{bytesOfBlock, filledImage}
+use Rattle.filling.specs.InArena.{AllInArena}
 use Rattle.filling.proofs.Unused.{filled-none, filled-one, made-one, made-none}
 use borrow.Author.Needs.{needs}
 use Rattle.filling.proofs.fill.fill_made.Statement.{statement}
@@ -18,7 +18,7 @@ block-at-requires c κs = c .before .before .before .pre .0 (omega arith)
 
 fill-span-requires : tie.Need-fill-span-requires
 fill-span-requires c κs = let a = c .before .before .before .before .before .args in
-    let w = subst (AllWithin (a .arena) (length (now (a .image)))) (made-one (a .before) (a .r) (omega arith)) (c .before .before .before .before .before .pre .1) in
+    let w = subst (AllInArena (a .arena) (length (now (a .image)))) (made-one (a .before) (a .r) (omega arith)) (c .before .before .before .before .before .pre .1) in
     subst (λ (b : Block). (a .arena ≤ b .base) × (b .base + b .size ≤ a .arena + length (now (a .image)))) (sym (c .before .block-at .ensures)) (w .0 .low, w .0 .high)
 
 same-length : tie.Need-same-length
@@ -29,11 +29,11 @@ returns c = let a = c .before .before .before .before .before .before .before .b
     c .before .before .fill-span .ensures
     ∙ ap (λ (b : Block). filledAt (now (a .image)) (b .base - a .arena) (b .size) (a .pattern)) (c .before .before .before .before .block-at .ensures)
     ∙ sym (filled-one (a .arena) (a .pattern) (now (a .image)) (bytesOfBlock (blockAt (a .r) (a .before))))
-    ∙ sym (ap (filled (a .arena) (a .pattern) (now (a .image))) (made-one (a .before) (a .r) (omega arith)))
+    ∙ sym (ap (filledImage (a .arena) (a .pattern) (now (a .image))) (made-one (a .before) (a .r) (omega arith)))
 
 returns-2 : tie.Need-returns-2
 returns-2 c = let a = c .before .before .before .args in
-    sym (ap (filled (a .arena) (a .pattern) (now (a .image))) (made-none (a .before) (a .r) (omega arith)) ∙ filled-none (a .arena) (a .pattern) (now (a .image)))
+    sym (ap (filledImage (a .arena) (a .pattern) (now (a .image))) (made-none (a .before) (a .r) (omega arith)) ∙ filled-none (a .arena) (a .pattern) (now (a .image)))
 
 pub fill-made-spec : {M : Type 1} → statement M
 fill-made-spec =

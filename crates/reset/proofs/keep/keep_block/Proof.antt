@@ -1,6 +1,6 @@
 use mathlib.Core.Path.{sym, subst}
 use Rattle.block.specs.declared.Block.{Block}
-use Rattle.table.specs.Ready.{Enters}
+use Rattle.table.specs.Changeable.{Insertable}
 use borrow.Author.Needs.{needs}
 use Rattle.reset.proofs.keep.keep_block.Statement.{statement}
 use Rattle.reset.proofs.keep.keep_block.Tie as tie
@@ -9,7 +9,7 @@ emptied-record-requires : tie.Need-emptied-record-requires
 emptied-record-requires c κs = search needs
 
 insert-block-requires : tie.Need-insert-block-requires
-insert-block-requires c κs = subst (λ (b : Block). Enters (c .before .args .r) b) (sym (c .emptied-record .ensures)) (c .before .pre)
+insert-block-requires c κs = subst (λ (b : Block). Insertable (c .before .args .r) b) (sym (c .emptied-record .ensures)) (c .before .pre)
 
 mul-pool : tie.Need-mul-pool
 mul-pool c = search needs

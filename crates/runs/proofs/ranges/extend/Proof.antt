@@ -43,9 +43,9 @@ sub-loop c = search needs
 -- the walk stops at the end of a word, or at the window's end
 stopped : (c : tie.At-loop Inv-loop μ-loop)
     → let a = c .before .before .before .args in
-    (c .loop .e < a .end → c .loop .e - a .start < a .hint → bit (a .words .now) (c .loop .e) ≡ 1)
-    → ClearIn (a .words .now) (a .start) (32 * a .from + 32) (a .end)
-    → Ends (a .words .now) (a .start) (a .end) (a .hint) (c .loop .e) (c .loop .at) 0
+    (c .loop .to < a .end → c .loop .to - a .from < a .hint → bit (a .words .now) (c .loop .to) ≡ 1)
+    → ClearIn (a .words .now) (a .from) (32 * a .index + 32) (a .end)
+    → Ends (a .words .now) (a .from) (a .end) (a .hint) (c .loop .to) (c .loop .at) 0
 stopped c f b =
     let a = c .before .before .before .args in
     let l = c .loop in
@@ -54,7 +54,7 @@ stopped c f b =
       inside = omega (arith, l .inv .3);
       free = l .inv .4 b;
       stop = f;
-      next = seen-past (a .words .now) (a .end) (l .e) 0 (l .at) (l .inv .0) (l .inv .3);
+      next = seen-past (a .words .now) (a .end) (l .to) 0 (l .at) (l .inv .0) (l .inv .3);
     }
 
 returns : tie.Need-returns Inv-loop μ-loop
@@ -90,8 +90,8 @@ returns-2 : tie.Need-returns-2 Inv-loop μ-loop
 returns-2 c b =
     let a = c .before .before .before .before .before .before .before .before .args in
     let l = c .before .before .before .before .before .loop in
-    let full : l .e ≡ 32 * (l .at + 1) = omega (arith, l .inv .3, c .before .before .before .if1 .left) in
-    ends-later (a .words .now) (a .start) (a .end) (a .hint) (l .at + 1) (c .lesser2 .result) (λ i. c .before .before .shared-slice-known2 .given i .fits)
+    let full : l .to ≡ 32 * (l .at + 1) = omega (arith, l .inv .3, c .before .before .before .if1 .left) in
+    ends-later (a .words .now) (a .from) (a .end) (a .hint) (l .at + 1) (c .lesser2 .result) (λ i. c .before .before .shared-slice-known2 .given i .fits)
     (omega (arith, l .inv .3, c .before .before .before .if1 .left)) (c .before .if2 .taken) (omega (arith, l .inv .2)) (omega arith)
     (λ k p q r. l .inv .4 b k p (omega arith)) (omega (arith, c .lesser2 .ensures))
 
@@ -114,8 +114,8 @@ loop-again : tie.Need-loop-again Inv-loop μ-loop
 loop-again c =
     let a = c .before .before .before .before .before .before .before .before .args in
     let l = c .before .before .before .before .before .loop in
-    let full : l .e ≡ 32 * (l .at + 1) = omega (arith, l .inv .3, c .before .before .before .if1 .left) in
-    let more : l .e < a .end = omega (arith, l .inv .3, c .before .before .before .if1 .left) in (
+    let full : l .to ≡ 32 * (l .at + 1) = omega (arith, l .inv .3, c .before .before .before .if1 .left) in
+    let more : l .to < a .end = omega (arith, l .inv .3, c .before .before .before .if1 .left) in (
       omega arith,
       omega (arith, l .inv .1),
       omega (arith, c .lesser3 .ensures, l .inv .2),
@@ -123,7 +123,7 @@ loop-again c =
       λ b k p q.
           ⊎-elim
           (λ g. zero-word (a .words .now) (l .at + 1) k (c .before .if2 .left) (omega arith) (omega (arith, c .lesser3 .ensures)))
-          (λ g. l .inv .4 b k p g) (le-or-lt (l .e) k),
+          (λ g. l .inv .4 b k p g) (le-or-lt (l .to) k),
     )
 
 returns-3 : tie.Need-returns-3 Inv-loop μ-loop

@@ -26,14 +26,14 @@ returns c p s k q r =
     (seen-none (a .words .now) (a .end) p 0 (w .at) (w .word) (c .before .skip .ensures .0 p s) (c .if1 .taken) k q
     (omega (arith, c .before .skip .ensures .1 .0 (c .if1 .taken))) r)
 
-mul-start : tie.Need-mul-start
-mul-start c = search needs
+mul-from : tie.Need-mul-from
+mul-from c = search needs
 
-cast-start : tie.Need-cast-start
-cast-start c = omega (arith, trailing-le 32 (c .before .skip .result .word))
+cast-from : tie.Need-cast-from
+cast-from c = omega (arith, trailing-le 32 (c .before .skip .result .word))
 
-add-start : tie.Need-add-start
-add-start c = omega (arith, trailing-le 32 (c .before .skip .result .word))
+add-from : tie.Need-add-from
+add-from c = omega (arith, trailing-le 32 (c .before .skip .result .word))
 
 returns-2 : tie.Need-returns-2
 returns-2 c p s k q r =
@@ -101,9 +101,9 @@ next-range-spec =
     (tie.spec
     skip-requires
     returns
-    mul-start
-    cast-start
-    add-start
+    mul-from
+    cast-from
+    add-from
     returns-2
     shl-used
     mul-lesser

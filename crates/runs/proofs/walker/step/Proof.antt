@@ -1,5 +1,5 @@
 -- `held::step` meets its contract: a walk of its MIR, by hand. A `BitVectorRangeIterator` is made in a local of the slice and the numbers passed,
--- and goes to `held_next`, of which the proof knows only that it meets its contract. A `&[u32]` is Copy, so what it owns is had twice: once for
+-- and goes to `next`, of which the proof knows only that it meets its contract. A `&[u32]` is Copy, so what it owns is had twice: once for
 -- slice at exit, and once inside the struct. Assumes nothing.
 use mathlib.Core.Path.{refl}
 use Prim.Native.Nat.{ℕ, _<_, _^_}
@@ -39,18 +39,18 @@ use denote.Triple.Table.{entered, cited}
 use denote.Triple.Walked.{says, needs, Stays, stay-none, stay-none-slice, walkOf, goes-none, goes-none-slice, Walks, ends-at, walked, walk-meets}
 use denote.Exit.{yes}
 use denote.Triple.Clauses.{ensured, lasts}
-use Rattle.runs.specs.Walk.{Stands, Answer}
+use Rattle.runs.specs.Walk.{Stands, StepAnswer}
 use Rattle.runs.specs.declared.walker.BitVectorRangeIterator.{BitVectorRangeIterator}
 use Rattle.runs.specs.declared.Next.{Next}
 use Rattle.runs.proofs.walker.BitVectorRangeIterator as T
 use Rattle.runs.proofs.walker.BitVectorRangeIterator.Laws as T′
 use Rattle.runs.proofs.Next as S
 use Rattle.runs.proofs.Next.Laws as S′
-use Rattle.runs.proofs.walker.held_next as held
-use Rattle.runs.proofs.walker.held_next.Symbol as held-def
-use Rattle.runs.proofs.walker.held_next.Symbol.{name as #held·held-next}
-use Rattle.runs.proofs.walker.held_next.Met as held-thm
-use Rattle.runs.proofs.walker.step.Key.{name as #held·step}
+use Rattle.runs.proofs.walker.next as held
+use Rattle.runs.proofs.walker.next.Symbol as held-def
+use Rattle.runs.proofs.walker.next.Symbol.{name as #next}
+use Rattle.runs.proofs.walker.next.Met as held-thm
+use Rattle.runs.proofs.walker.step.Key.{name as #step}
 use Rattle.runs.proofs.walker.step as step
 use Rattle.runs.proofs.walker.step.Statement as stated
 use Rattle.runs.proofs.walker.step.Code as code
@@ -92,7 +92,7 @@ module _ {M : Type 1} (𝓤 : URA M) (H : Heap 𝓤) (A : Atoms 𝓤) (W : Given
   vals = (v ∷ [], (vint w64 at ∷ [], (vint w32 word ∷ [], (vint w64 end ∷ [], (vint w64 n ∷ [], tt)))))
 
   abbrev Found : Next → Type 0
-  Found r = Answer (now s) at word end n r
+  Found r = StepAnswer (now s) at word end n r
 
   abbrev Post : Val → SProp 𝓤
   Post = walkOf 𝓤 H A step.ended stayed (step.clauses 𝓤 H A mem run) .post (((κ, tt), (q, tt), tt, a, vals), tt)
@@ -129,7 +129,7 @@ module _ {M : Type 1} (𝓤 : URA M) (H : Heap 𝓤) (A : Atoms 𝓤) (W : Given
       move ! (1 ∷ []) $ frame ! $ nothing ! $ owned ! usize (Is usize) (uint-makes 𝓤 H A W w64) n _ (refl, n-fits) $ fjoin ! $ owned ! usize (Is usize) (uint-makes 𝓤 H A W w64) end _ (refl, end-fits) $ fjoin ! $
       owned ! u32 (Is u32) (uint-makes 𝓤 H A W w32) word _ (refl, word-fits) $ fjoin ! $ owned ! usize (Is usize) (uint-makes 𝓤 H A W w64) at _ (refl, at-fits) $ fjoin ! $ move ! (2 ∷ 0 ∷ []) $ fjoin ! $ frame ! $ done !
 
-  module _ (C : Calls 𝓤 H) (Λ : Loops 𝓤 H) (fm : FmC 𝓤 H (W .laws) C) (known : Triple 𝓤 (C #held·held-next) (HeldNext 𝓤 H A mem run)) where
+  module _ (C : Calls 𝓤 H) (Λ : Loops 𝓤 H) (fm : FmC 𝓤 H (W .laws) C) (known : Triple 𝓤 (C #next) (HeldNext 𝓤 H A mem run)) where
     walk : Is (ShrSlice (named 0) κ u32) s (v ∷ []) → Stands (now s) at end
         → ent 𝓤 (onEntry 𝓤 H A step.signature (κ, tt) (q, tt) a vals) (WpFn 𝓤 H C Λ code.function (v ∷ vint w64 at ∷ vint w32 word ∷ vint w64 end ∷ vint w64 n ∷ []) Post)
     walk p w =
@@ -152,7 +152,7 @@ module _ {M : Type 1} (𝓤 : URA M) (H : Heap 𝓤) (A : Atoms 𝓤) (W : Given
         by ! (exits r u e))))))))))))
 
 module _ {M : Type 1} (𝓤 : URA M) (H : Heap 𝓤) (A : Atoms 𝓤) (W : Given 𝓤 H A) (mem : Memory → SProp 𝓤) (run : Routine → Fun 𝓤) where
-  step-walks : (C : Calls 𝓤 H) (Λ : Loops 𝓤 H) → FmC 𝓤 H (W .laws) C → Triple 𝓤 (C #held·held-next) (HeldNext 𝓤 H A mem run)
+  step-walks : (C : Calls 𝓤 H) (Λ : Loops 𝓤 H) → FmC 𝓤 H (W .laws) C → Triple 𝓤 (C #next) (HeldNext 𝓤 H A mem run)
       → Walks 𝓤 H A step.ended stayed (WpFn 𝓤 H C Λ code.function) (step.clauses 𝓤 H A mem run)
   step-walks C Λ fm known = walked 𝓤 H A step.ended stayed (step.clauses 𝓤 H A mem run) (WpFn 𝓤 H C Λ code.function)
       (λ κs. (slice-vals, (uint-vals w64, (uint-vals w32, (uint-vals w64, (uint-vals w64, tt)))))) (λ κs. (shr-slice-tells (named 0) (κs .0) u32, (uint-tells w64, (uint-tells w32, (uint-tells w64, (uint-tells w64, tt))))))
@@ -160,7 +160,7 @@ module _ {M : Type 1} (𝓤 : URA M) (H : Heap 𝓤) (A : Atoms 𝓤) (W : Given
       (walk 𝓤 H A W mem run (κs .0) (qs .0) (a .0) (a .1 .0) (a .1 .1 .0) (a .1 .1 .1 .0) (a .1 .1 .1 .1 .0) (are .1 .0 .1) (are .1 .1 .0 .1) (are .1 .1 .1 .0 .1) (are .1 .1 .1 .1 .0 .1) C Λ fm known (are .0)))
 
 step-meets : {M : Type 1} (𝓤 : URA M) (H : Heap 𝓤) (A : Atoms 𝓤) (W : Given 𝓤 H A) (mem : Memory → SProp 𝓤) (run : Routine → Fun 𝓤) (𝓣 : Tables 𝓤 H)
-    → Triple 𝓤 (𝓣 .C #held·held-next) (HeldNext 𝓤 H A mem run)
+    → Triple 𝓤 (𝓣 .C #next) (HeldNext 𝓤 H A mem run)
     → Meets 𝓤 H A step.signature (WpFn 𝓤 H (𝓣 .C) (𝓣 .Λ) code.function) (step.spec 𝓤 H A mem run)
 step-meets 𝓤 H A W mem run 𝓣 known = walk-meets 𝓤 H A step.ended stayed W
     (goes-none-slice 𝓤 H A W 1 (0 ∷ []) tt (plain (λ _. u32)) yes, (goes-none 𝓤 H A W 1 (λ _. usize) yes (λ κs x f. refl), (goes-none 𝓤 H A W 1 (λ _. u32) yes (λ κs x f. refl), (goes-none 𝓤 H A W 1 (λ _. usize) yes (λ κs x f. refl), (goes-none 𝓤 H A W 1 (λ _. usize) yes (λ κs x f. refl), tt)))))
@@ -171,6 +171,6 @@ pub step-spec : {M : Type 1} → stated.statement M
 unfolding code.routine tablesOf
 step-spec 𝓤 H 𝓜 𝓖 𝓡 =
     entered 𝓤 H (tripleOf 𝓤 H (𝓖 .A) step.signature (step.spec 𝓤 H (𝓖 .A) (𝓜 .mem) (𝓡 .run)))
-    (tables 𝓤 H 𝓜 𝓡 code.env .C) (tables 𝓤 H 𝓜 𝓡 code.env .Λ) #held·step code.function (code.unfolded 𝓤 H 𝓜 𝓡)
+    (tables 𝓤 H 𝓜 𝓡 code.env .C) (tables 𝓤 H 𝓜 𝓡 code.env .Λ) #step code.function (code.unfolded 𝓤 H 𝓜 𝓡)
     (step-meets 𝓤 H (𝓖 .A) (givenOf 𝓤 H 𝓜 𝓖) (𝓜 .mem) (𝓡 .run) (tablesOf 𝓤 H 𝓜 (tables 𝓤 H 𝓜 𝓡 code.env))
-    (cited 𝓤 H (HeldNext 𝓤 H (𝓖 .A) (𝓜 .mem) (𝓡 .run)) 𝓜 𝓡 code.env #held·held-next held-def.routine code.calls-runs·walker·held-next (held-thm.met 𝓤 H 𝓜 𝓖 𝓡)))
+    (cited 𝓤 H (HeldNext 𝓤 H (𝓖 .A) (𝓜 .mem) (𝓡 .run)) 𝓜 𝓡 code.env #next held-def.routine code.calls-runs·walker·next (held-thm.met 𝓤 H 𝓜 𝓖 𝓡)))

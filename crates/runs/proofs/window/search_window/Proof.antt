@@ -31,26 +31,26 @@ enum-known-got c = search needs
 enum-told : tie.Need-enum-told Inv-loop μ-loop
 enum-told c = search needs
 
-closed-requires : tie.Need-closed-requires Inv-loop μ-loop
-closed-requires c κs = search needs
+tight-or-full-requires : tie.Need-tight-or-full-requires Inv-loop μ-loop
+tight-or-full-requires c κs = search needs
 
 returns : tie.Need-returns Inv-loop μ-loop
 returns c =
     let a = c .before .before .before .before .before .before .before .before .args in
     let l = c .before .before .before .before .before .loop in
-    known-sought (a .words .now) (a .start) (a .end) (a .n) (l .from) (l .first) (l .longest) (c .closed .result) (l .inv .0)
-    (subst (Stepped (a .words .now) (a .end) (a .n) (l .from)) (c .before .enum-told .given .1) (c .before .before .before .step .ensures (l .from) (l .inv .1)))
-    (c .closed .ensures)
+    known-sought (a .words .now) (a .start) (a .end) (a .n) (l .passed) (l .first) (l .longest) (c .tight-or-full .result) (l .inv .0)
+    (subst (Stepped (a .words .now) (a .end) (a .n) (l .passed)) (c .before .enum-told .given .1) (c .before .before .before .step .ensures (l .passed) (l .inv .1)))
+    (c .tight-or-full .ensures)
 
 -- the run that a step found
 run : (c : tie.After-got Inv-loop μ-loop)
     → let a = c .before .before .before .before .before .before .before .args in
     let g = c .got .given .0 in
-    RunFrom (a .words .now) (a .end) (a .n) (c .before .before .before .before .loop .from) (g .0) (g .1 .0) (g .1 .1 .0)
+    RunFrom (a .words .now) (a .end) (a .n) (c .before .before .before .before .loop .passed) (g .0) (g .1 .0) (g .1 .1 .0)
 run c =
     let a = c .before .before .before .before .before .before .before .args in
     let l = c .before .before .before .before .loop in
-    subst (Stepped (a .words .now) (a .end) (a .n) (l .from)) (c .got .given .1) (c .before .before .step .ensures (l .from) (l .inv .1))
+    subst (Stepped (a .words .now) (a .end) (a .n) (l .passed)) (c .got .given .1) (c .before .before .step .ensures (l .passed) (l .inv .1))
 
 sub-if1 : tie.Need-sub-if1 Inv-loop μ-loop
 sub-if1 c = omega (arith, run (c .before) .ends .some)
@@ -60,11 +60,11 @@ returns-2 c =
     let a = c .before .before .before .before .before .before .before .before .before .args in
     let l = c .before .before .before .before .before .before .loop in
     let g = c .before .before .got .given .0 in
-    fit-here (a .words .now) (a .start) (a .end) (a .n) (l .from) (g .0) (g .1 .0) (g .1 .1 .0) (omega arith) (l .inv .0 .low)
-    (known-fit (a .words .now) (a .start) (a .end) (a .n) (l .from) (l .first) (l .longest) (l .inv .0)) (run (c .before .before)) (c .if1 .taken)
+    fit-here (a .words .now) (a .start) (a .end) (a .n) (l .passed) (g .0) (g .1 .0) (g .1 .1 .0) (omega arith) (l .inv .0 .low)
+    (known-fit (a .words .now) (a .start) (a .end) (a .n) (l .passed) (l .first) (l .longest) (l .inv .0)) (run (c .before .before)) (c .if1 .taken)
 
-earlier-requires : tie.Need-earlier-requires Inv-loop μ-loop
-earlier-requires c κs = search needs
+first-start-requires : tie.Need-first-start-requires Inv-loop μ-loop
+first-start-requires c κs = search needs
 
 sub-greater : tie.Need-sub-greater Inv-loop μ-loop
 sub-greater c = omega (arith, run (c .before .before .before) .ends .some)
@@ -83,20 +83,20 @@ loop-again c =
     let l = c .before .before .before .before .before .before .before .before .loop in
     let g = c .before .before .before .before .got .given .0 in
     let r = run (c .before .before .before .before) in (
-      known-run (a .words .now) (a .start) (a .end) (a .n) (l .from) (l .first) (l .longest) (g .0) (g .1 .0) (g .1 .1 .0) (c .before .earlier .result) (c .greater .result)
-          (l .inv .0) r (c .before .before .if1 .left) (c .before .earlier .ensures .0) (c .before .earlier .ensures .1) (c .greater .ensures),
+      known-run (a .words .now) (a .start) (a .end) (a .n) (l .passed) (l .first) (l .longest) (g .0) (g .1 .0) (g .1 .1 .0) (c .before .first-start .result) (c .greater .result)
+          (l .inv .0) r (c .before .before .if1 .left) (c .before .first-start .ensures .0) (c .before .first-start .ensures .1) (c .greater .ensures),
       r .ends .next,
     )
 
-closed-requires-2 : tie.Need-closed-requires-2 Inv-loop μ-loop
-closed-requires-2 c κs = search needs
+tight-or-full-requires-2 : tie.Need-tight-or-full-requires-2 Inv-loop μ-loop
+tight-or-full-requires-2 c κs = search needs
 
 returns-3 : tie.Need-returns-3 Inv-loop μ-loop
 returns-3 c =
     let a = c .before .before .before .before .before .args in
     let l = c .before .before .loop in
-    known-sought (a .words .now) (a .start) (a .end) (a .n) (l .from) (l .first) (l .longest) (c .closed2 .result) (l .inv .0)
-    (λ k p q. absurd (omega (arith, c .before .loop-test .left))) (c .closed2 .ensures)
+    known-sought (a .words .now) (a .start) (a .end) (a .n) (l .passed) (l .first) (l .longest) (c .tight-or-full2 .result) (l .inv .0)
+    (λ k p q. absurd (omega (arith, c .before .loop-test .left))) (c .tight-or-full2 .ensures)
 
 pub search-window-spec : {M : Type 1} → statement M
 search-window-spec =
@@ -109,14 +109,14 @@ search-window-spec =
     step-requires
     enum-known-got
     enum-told
-    closed-requires
+    tight-or-full-requires
     returns
     sub-if1
     returns-2
-    earlier-requires
+    first-start-requires
     sub-greater
     greater-requires
     loop-less
     loop-again
-    closed-requires-2
+    tight-or-full-requires-2
     returns-3)

@@ -9,7 +9,7 @@ use Rattle.sizes.proofs.limits.is_granularity.Statement.{statement}
 use Rattle.sizes.proofs.limits.is_granularity.Tie as tie
 
 -- the first two tests
-joined : (c : tie.Joined1) → c .if1 .if2 ≡ (eqb (c .before .args .g) 64 || eqb (c .before .args .g) 128)
+joined : (c : tie.Joined1) → c .if1 .if2 ≡ (eqb (c .before .args .granularity) 64 || eqb (c .before .args .granularity) 128)
 joined c =
     ⊎-elim (λ w. w .1 ∙ rw (eq-eqb _ _ (w .0 .taken))) (λ w. w .1 ∙ rw (ne-eqb _ _ (w .0 .left))) (c .if1 .came)
 

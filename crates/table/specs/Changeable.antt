@@ -7,7 +7,7 @@ use Rattle.state.specs.Table.{zeroBlock, blockAt, ageAt, poolAt}
 use Rattle.state.specs.Change.{placeOfAge}
 
 -- there is room in the table, its lists end in zeros, and the pool's sums stay in range
-pub record Enters (s : State) (b : Block) : Type 0 where
+pub record Insertable (s : State) (b : Block) : Type 0 where
   pub room : s .count < 64
   pub age : (k : ℕ) → k < s .count → ageAt s k < 64
   pub order-rest : (k : ℕ) → s .count ≤ k → ageAt s k ≡ 0
@@ -16,7 +16,7 @@ pub record Enters (s : State) (b : Block) : Type 0 where
   pub area : poolAt s (b .pool) .area + b .area < 2 ^ 32
 
 -- the block stands, also in the order of address, the lists end in zeros, and the pool's sums have it
-pub record Leaves (s : State) (i : ℕ) : Type 0 where
+pub record Removable (s : State) (i : ℕ) : Type 0 where
   pub stands : i < s .count
   pub few : s .count ≤ 64
   pub place : placeOfAge s i < s .count

@@ -14,7 +14,7 @@ use Rattle.state.specs.Table.{blockAt}
 use Rattle.state.specs.Shape.{isEmpty}
 use Rattle.state.proofs.Tests.{every-at}
 use Rattle.shape.specs.Parts.{blockTests, blockOk}
-use Rattle.shape.specs.Facts.{Headed, Sound, SoundIn, Laid}
+use Rattle.shape.specs.Facts.{Headed, ShapedBlock, ShapedBlockIn, Laid}
 use Rattle.numbers.proofs.Split.{not-both}
 use Rattle.shape.proofs.Head.{not-zero}
 
@@ -26,7 +26,7 @@ unused-empty : (e : Bool) (n : ℕ) → pick e (eqb n 0) (not (eqb n 0)) ≡ tru
 unused-empty true n p q = sym (eq-eqb n 0 q) ∙ p
 unused-empty false n p q = absurd (not-both (eqb n 0) (eq-eqb n 0 q) (not-true (eqb n 0) p))
 
-pub sound : (g pools w slots arena length : ℕ) (b : Block) → blockOk g pools w slots arena length b ≡ true → Sound g pools w slots arena length b
+pub sound : (g pools w slots arena length : ℕ) (b : Block) → blockOk g pools w slots arena length b ≡ true → ShapedBlock g pools w slots arena length b
 unfolding blockOk
 sound g pools w slots arena length b e = record {
   slot = ltb-true (b .slot) slots (at 0);
@@ -51,10 +51,10 @@ sound g pools w slots arena length b e = record {
     at k = every-at (blockTests g pools w slots arena length b) k e
 
 -- a unit has g bytes, so no block is without bytes
-pub sized : (s : State) (b : Block) → Headed s → SoundIn s b → 0 < b .size
-sized s b h k = omega (arith, k .area-size, mul-le-mul {n₁ = 1} {m₁ = 64} {n₂ = b .area} {m₂ = s .g} (k .area-low) (h .g-low))
+pub sized : (s : State) (b : Block) → Headed s → ShapedBlockIn s b → 0 < b .size
+sized s b h k = omega (arith, k .area-size, mul-le-mul {n₁ = 1} {m₁ = 64} {n₂ = b .area} {m₂ = s .granularity} (k .area-low) (h .g-low))
 
-pub laid : (s : State) → Headed s → ((i : ℕ) → i < s .count → SoundIn s (blockAt s i)) → Laid s
+pub laid : (s : State) → Headed s → ((i : ℕ) → i < s .count → ShapedBlockIn s (blockAt s i)) → Laid s
 laid s h k = record {
   count = omega (arith, h .count-slots, h .slots-high);
   sized = λ i l. sized s (blockAt s i) h (k i l);

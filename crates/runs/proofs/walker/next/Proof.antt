@@ -1,4 +1,4 @@
--- `held::held_next` meets its contract: a walk of its MIR, by hand. The struct is taken apart, and `next_range` is called on the slice and the
+-- `held::next` meets its contract: a walk of its MIR, by hand. The struct is taken apart, and `next_range` is called on the slice and the
 -- numbers. All that the proof knows of `next_range` is that it meets its contract. The struct is Copy: what it owns is had twice, one copy is
 -- kept whole for the exit, and of the other what slice owns goes to the callee, beside the lifetime's token, which comes back. Assumes nothing.
 use mathlib.Core.Path.{_≡_, refl}
@@ -43,7 +43,7 @@ use denote.Triple.Table.{entered, cited}
 use denote.Triple.Walked.{says, needs, Stays, stay-none, walkOf, goes-none, Walks, ends-at, walked, walk-meets}
 use denote.Exit.{yes}
 use denote.Triple.Clauses.{ensured, lasts}
-use Rattle.runs.specs.Walk.{Stands, Answer}
+use Rattle.runs.specs.Walk.{Stands, StepAnswer}
 use Rattle.runs.specs.declared.walker.BitVectorRangeIterator.{BitVectorRangeIterator}
 use Rattle.runs.specs.declared.Next.{Next}
 use Rattle.runs.proofs.walker.BitVectorRangeIterator as T
@@ -54,10 +54,10 @@ use Rattle.runs.proofs.ranges.next_range as range
 use Rattle.runs.proofs.ranges.next_range.Symbol as range-def
 use Rattle.runs.proofs.ranges.next_range.Symbol.{name as #next-range}
 use Rattle.runs.proofs.ranges.next_range.Met as range-thm
-use Rattle.runs.proofs.walker.held_next.Key.{name as #held·held-next}
-use Rattle.runs.proofs.walker.held_next as held
-use Rattle.runs.proofs.walker.held_next.Statement as stated
-use Rattle.runs.proofs.walker.held_next.Code as code
+use Rattle.runs.proofs.walker.next.Key.{name as #next}
+use Rattle.runs.proofs.walker.next as held
+use Rattle.runs.proofs.walker.next.Statement as stated
+use Rattle.runs.proofs.walker.next.Code as code
 
 -- the struct's type, over the signature's lifetimes
 abbrev B : Lfts 1 → RattleType
@@ -80,7 +80,7 @@ module _ {M : Type 1} (𝓤 : URA M) (H : Heap 𝓤) (A : Atoms 𝓤) (W : Given
   v = sliceVal (d .slice .ptr) (length (d .slice .now))
 
   abbrev Found : Next → Type 0
-  Found r = Answer (now (d .slice)) (d .at) (d .word) (d .end) n r
+  Found r = StepAnswer (now (d .slice)) (d .at) (d .word) (d .end) n r
 
   abbrev vals : Vals held.signature (κ, tt)
   vals = (mach ∷ [], (vint w64 n ∷ [], tt))
@@ -167,10 +167,10 @@ held-meets : {M : Type 1} (𝓤 : URA M) (H : Heap 𝓤) (A : Atoms 𝓤) (W : G
 held-meets 𝓤 H A W mem run 𝓣 known-range = walk-meets 𝓤 H A held.ended stayed W (goes-none 𝓤 H A W 1 B yes (λ κs x f. refl), (goes-none 𝓤 H A W 1 (λ _. usize) yes (λ κs x f. refl), tt)) (held.clauses 𝓤 H A mem run) (WpFn 𝓤 H (𝓣 .C) (𝓣 .Λ) code.function) (WpFn-mono 𝓤 H (W .laws) 𝓣 code.function)
     (held-walks 𝓤 H A W mem run (𝓣 .C) (𝓣 .Λ) (fmOf 𝓤 H (W .laws) 𝓣) known-range)
 
-pub held-next-spec : {M : Type 1} → stated.statement M
+pub next-spec : {M : Type 1} → stated.statement M
 unfolding code.routine tablesOf
-held-next-spec 𝓤 H 𝓜 𝓖 𝓡 =
+next-spec 𝓤 H 𝓜 𝓖 𝓡 =
     entered 𝓤 H (tripleOf 𝓤 H (𝓖 .A) held.signature (held.spec 𝓤 H (𝓖 .A) (𝓜 .mem) (𝓡 .run)))
-    (tables 𝓤 H 𝓜 𝓡 code.env .C) (tables 𝓤 H 𝓜 𝓡 code.env .Λ) #held·held-next code.function (code.unfolded 𝓤 H 𝓜 𝓡)
+    (tables 𝓤 H 𝓜 𝓡 code.env .C) (tables 𝓤 H 𝓜 𝓡 code.env .Λ) #next code.function (code.unfolded 𝓤 H 𝓜 𝓡)
     (held-meets 𝓤 H (𝓖 .A) (givenOf 𝓤 H 𝓜 𝓖) (𝓜 .mem) (𝓡 .run) (tablesOf 𝓤 H 𝓜 (tables 𝓤 H 𝓜 𝓡 code.env))
     (cited 𝓤 H (NextRange 𝓤 H (𝓖 .A) (𝓜 .mem) (𝓡 .run)) 𝓜 𝓡 code.env #next-range range-def.routine code.calls-runs·ranges·next-range (range-thm.met 𝓤 H 𝓜 𝓖 𝓡)))

@@ -3,7 +3,7 @@ use Prim.Native.Nat.{ℕ, _+_, _*_, _^_, _≤_, _<_}
 use mathlib.Core.Path.{_≡_}
 use Rattle.block.specs.declared.Block.{Block}
 
-pub record Within (b : Block) (unit a : ℕ) : Type 0 where
+pub record AddressIn (b : Block) (unit a : ℕ) : Type 0 where
   pub some : 0 < unit
   pub few : b .area < 2 ^ 32
   pub size : b .area * unit ≡ b .size

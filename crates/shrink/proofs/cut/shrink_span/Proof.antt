@@ -9,12 +9,12 @@ use Rattle.state.specs.declared.Span.{Span}
 use Rattle.state.specs.declared.Answer.the-variants.{Shrunk}
 use Rattle.state.specs.Table.{blockAt}
 use Rattle.machine.specs.Turn.{turn, unitOf, span}
-use Rattle.machine.specs.Shrink.{unitsTurn}
+use Rattle.machine.specs.Shrink.{shrinkUnits}
 use Rattle.shape_facts.proofs.Facts.{pool-3, unit-g, bytes-fit, spannable}
 use Rattle.shrink.proofs.Cases.{units-over, units-within, units-some, more-units, same-units, fewer-units}
 use borrow.Author.Needs.{needs}
-use Rattle.shrink.proofs.cut.keep.Statement.{statement}
-use Rattle.shrink.proofs.cut.keep.Tie as tie
+use Rattle.shrink.proofs.cut.shrink_span.Statement.{statement}
+use Rattle.shrink.proofs.cut.shrink_span.Tie as tie
 
 pool-low : (c : tie.Start) → blockAt (c .args .s) (c .args .j) .pool < 3
 pool-low c = let a = c .args in pool-3 (a .s) (length (a .used .now)) (length (a .stop .now)) (c .pre .0 .0) (a .j) (c .pre .0 .1)
@@ -26,42 +26,42 @@ some c =
     let f = c .pre .0 .0 in
     omega (arith, unit-g (a .s) (length (a .used .now)) (length (a .stop .now)) f (blockAt (a .s) (a .j) .pool) (pool-low c), f .head .g-low)
 
-fits : (c : tie.Start) (n : ℕ) → n ≤ c .args .e - c .args .i → n * unitOf (c .args .s) (blockAt (c .args .s) (c .args .j)) ≤ 2 ^ 27
+fits : (c : tie.Start) (n : ℕ) → n ≤ c .args .to - c .args .from → n * unitOf (c .args .s) (blockAt (c .args .s) (c .args .j)) ≤ 2 ^ 27
 fits c n l =
     let a = c .args in
     let f = c .pre .0 .0 in
     bytes-fit (a .s) (length (a .used .now)) (length (a .stop .now)) f (blockAt (a .s) (a .j) .pool) n (pool-low c)
     (omega (arith, c .pre .0 .2 .1, f .sound (a .j) (c .pre .0 .1) .area-high))
 
-makes : (c : tie.Start) (n : ℕ) → n ≤ c .args .e - c .args .i
+makes : (c : tie.Start) (n : ℕ) → n ≤ c .args .to - c .args .from
     → (c .args .j < 64) × (blockAt (c .args .s) (c .args .j) .pool < 3) × (n * unitOf (c .args .s) (blockAt (c .args .s) (c .args .j)) < 2 ^ 64)
 makes c n l =
     let a = c .args in spannable (a .s) (length (a .used .now)) (length (a .stop .now)) (c .pre .0 .0) (a .j) (c .pre .0 .1) n (omega (arith, c .pre .0 .2 .1))
 
 -- the size is at most that of the span, so its units are at most the span's
-size-low : (c : tie.Else1) → let a = c .before .before .before .before .before .args in a .size ≤ bytesOf (a .e - a .i) (unitOf (a .s) (blockAt (a .s) (a .j)))
+size-low : (c : tie.Else1) → let a = c .before .before .before .before .before .args in a .size ≤ bytesOf (a .to - a .from) (unitOf (a .s) (blockAt (a .s) (a .j)))
 size-low c = omega (arith, c .if1 .left, ap (λ (x : Span). x .size) (c .before .before .span-at .ensures))
 
-few : (c : tie.After-units-for) → c .units-for .result ≤ c .before .before .before .before .before .before .args .e - c .before .before .before .before .before .before .args .i
+few : (c : tie.After-units-for) → c .units-for .result ≤ c .before .before .before .before .before .before .args .to - c .before .before .before .before .before .before .args .from
 few c =
     let a = c .before .before .before .before .before .before .args in
-    omega (arith, c .units-for .ensures, units-within (a .size) (unitOf (a .s) (blockAt (a .s) (a .j))) (some (c .before .before .before .before .before .before)) (a .e - a .i) (size-low (c .before)))
+    omega (arith, c .units-for .ensures, units-within (a .size) (unitOf (a .s) (blockAt (a .s) (a .j))) (some (c .before .before .before .before .before .before)) (a .to - a .from) (size-low (c .before)))
 
 span-at-requires : tie.Need-span-at-requires
-span-at-requires c κs = makes (c .before .before) (c .before .before .args .e - c .before .before .args .i) (omega arith)
+span-at-requires c κs = makes (c .before .before) (c .before .before .args .to - c .before .before .args .from) (omega arith)
 
 returns : tie.Need-returns
 returns c =
     let a = c .before .before .before .before .before .before .args in
     let unit = unitOf (a .s) (blockAt (a .s) (a .j)) in
-    let over : a .e - a .i < unitsOf (a .size) unit = units-over (a .size) unit (some (c .before .before .before .before .before .before)) (a .e - a .i) (omega (arith, c .before .if1 .taken, ap (λ (x : Span). x .size) (c .before .before .before .span-at .ensures))) in
+    let over : a .to - a .from < unitsOf (a .size) unit = units-over (a .size) unit (some (c .before .before .before .before .before .before)) (a .to - a .from) (omega (arith, c .before .if1 .taken, ap (λ (x : Span). x .size) (c .before .before .before .span-at .ensures))) in
     ap (λ (o : Outcome). turn (o .answer) (o .state) (a .used .now) (a .stop .now)) (c .refused .ensures)
-    ∙ more-units (a .s) (a .used .now) (a .stop .now) (a .address) (a .j) (a .i) (a .e) (unitsOf (a .size) unit) (lt-ltb (a .e - a .i) (unitsOf (a .size) unit) over)
+    ∙ more-units (a .s) (a .used .now) (a .stop .now) (a .address) (a .j) (a .from) (a .to) (unitsOf (a .size) unit) (lt-ltb (a .to - a .from) (unitsOf (a .size) unit) over)
 
 units-for-requires : tie.Need-units-for-requires
 units-for-requires c κs =
     let a = c .before .before .before .before .before .args in
-    (makes (c .before .before .before .before .before) 0 (omega arith) .0, pool-low (c .before .before .before .before .before), some (c .before .before .before .before .before), omega (arith, some (c .before .before .before .before .before), size-low c, fits (c .before .before .before .before .before) (a .e - a .i) (omega arith)))
+    (makes (c .before .before .before .before .before) 0 (omega arith) .0, pool-low (c .before .before .before .before .before), some (c .before .before .before .before .before), omega (arith, some (c .before .before .before .before .before), size-low c, fits (c .before .before .before .before .before) (a .to - a .from) (omega arith)))
 
 span-at-requires-2 : tie.Need-span-at-requires-2
 span-at-requires-2 c κs = makes (c .before .before .before .before .before .before) (c .units-for .result) (few c)
@@ -71,8 +71,8 @@ returns-2 c =
     let a = c .before .before .before .before .before .before .before .before .args in
     let n = c .before .before .units-for .result in
     ap (λ (x : Span). turn (Shrunk x) (a .s) (a .used .now) (a .stop .now)) (c .before .span-at2 .ensures)
-    ∙ same-units (a .s) (a .used .now) (a .stop .now) (a .address) (a .j) (a .i) (a .e) n (le-ltb (a .e - a .i) n (few (c .before .before))) (eq-eqb n (a .e - a .i) (c .if2 .taken))
-    ∙ ap (λ (k : ℕ). unitsTurn (a .s) (a .used .now) (a .stop .now) (a .address) (a .j) (a .i) (a .e) k) (c .before .before .units-for .ensures)
+    ∙ same-units (a .s) (a .used .now) (a .stop .now) (a .address) (a .j) (a .from) (a .to) n (le-ltb (a .to - a .from) n (few (c .before .before))) (eq-eqb n (a .to - a .from) (c .if2 .taken))
+    ∙ ap (λ (k : ℕ). shrinkUnits (a .s) (a .used .now) (a .stop .now) (a .address) (a .j) (a .from) (a .to) k) (c .before .before .units-for .ensures)
 
 add-cut-off : tie.Need-add-cut-off
 add-cut-off c = omega (arith, few (c .before .before .before .before), c .before .before .before .before .before .before .before .before .before .before .pre .0 .2 .0)
@@ -94,8 +94,8 @@ returns-3 c =
     let m = c .before .before .before .before .cut-off in
     ap (λ (x : Span). turn (Shrunk x) (m .result) (m .last .1 .0) (m .last .1 .1 .0)) (c .before .before .before .before .before .before .before .before .span-at2 .ensures)
     ∙ m .ensures (Shrunk (span (a .address) (bytesOf n (unitOf (a .s) (blockAt (a .s) (a .j))))))
-    ∙ fewer-units (a .s) (a .used .now) (a .stop .now) (a .address) (a .j) (a .i) (a .e) n (le-ltb (a .e - a .i) n (few (c .before .before .before .before .before .before .before .before .before))) (ne-eqb n (a .e - a .i) (c .before .before .before .before .before .before .before .if2 .left))
-    ∙ ap (λ (k : ℕ). unitsTurn (a .s) (a .used .now) (a .stop .now) (a .address) (a .j) (a .i) (a .e) k) (c .before .before .before .before .before .before .before .before .before .units-for .ensures)
+    ∙ fewer-units (a .s) (a .used .now) (a .stop .now) (a .address) (a .j) (a .from) (a .to) n (le-ltb (a .to - a .from) n (few (c .before .before .before .before .before .before .before .before .before))) (ne-eqb n (a .to - a .from) (c .before .before .before .before .before .before .before .if2 .left))
+    ∙ ap (λ (k : ℕ). shrinkUnits (a .s) (a .used .now) (a .stop .now) (a .address) (a .j) (a .from) (a .to) k) (c .before .before .before .before .before .before .before .before .before .units-for .ensures)
 
 sub-span-at : tie.Need-sub-span-at
 sub-span-at c = search needs
@@ -112,8 +112,8 @@ same-length c = search needs
 same-length-2 : tie.Need-same-length-2
 same-length-2 c = search needs
 
-pub keep-spec : {M : Type 1} → statement M
-keep-spec =
+pub shrink-span-spec : {M : Type 1} → statement M
+shrink-span-spec =
     tie.close
     (tie.spec
     sub-span-at

@@ -1,7 +1,7 @@
 use mathlib.Core.Path.{_∙_}
 use borrow.Author.Needs.{needs}
-use Rattle.reset.proofs.keep.soften.Statement.{statement}
-use Rattle.reset.proofs.keep.soften.Tie as tie
+use Rattle.reset.proofs.keep.soft_reset_table.Statement.{statement}
+use Rattle.reset.proofs.keep.soft_reset_table.Tie as tie
 
 empty-table-requires : tie.Need-empty-table-requires
 empty-table-requires c κs = search needs
@@ -15,5 +15,5 @@ keep-oldest-requires c κs = search needs
 returns-2 : tie.Need-returns-2
 returns-2 c = c .keep-oldest .ensures ∙ rw (c .before .if1 .left)
 
-pub soften-spec : {M : Type 1} → statement M
-soften-spec = tie.close (tie.spec empty-table-requires returns keep-oldest-requires returns-2)
+pub soft-reset-table-spec : {M : Type 1} → statement M
+soft-reset-table-spec = tie.close (tie.spec empty-table-requires returns keep-oldest-requires returns-2)

@@ -4,14 +4,14 @@ use mathlib.Core.List.{List, [], _∷_}
 use mathlib.Core.Logic.{_⊎_}
 use Rattle.state.specs.declared.Span.{Span}
 
-pub record Within (arena length : ℕ) (x : Span) : Type 0 where
+pub record InArena (arena length : ℕ) (x : Span) : Type 0 where
   pub low : arena ≤ x .address
   pub high : x .address + x .size ≤ arena + length
   pub top : x .address + x .size ≤ 2 ^ 48
 
-abbrev pub AllWithin : ℕ → ℕ → List Span → Type 0
-AllWithin arena length [] = Unit {0}
-AllWithin arena length (x ∷ xs) = Within arena length x × AllWithin arena length xs
+abbrev pub AllInArena : ℕ → ℕ → List Span → Type 0
+AllInArena arena length [] = Unit {0}
+AllInArena arena length (x ∷ xs) = InArena arena length x × AllInArena arena length xs
 
 abbrev pub Outside : ℕ → List Span → Type 0
 Outside k [] = Unit {0}

@@ -14,21 +14,21 @@ use Rattle.machine.specs.Release.{lessUsed, settle}
 use Rattle.shape_facts.specs.Ready.{Settles}
 use Rattle.shape_facts.proofs.Leaves.{Stays, released-stays, less-ready, settles-after}
 use borrow.Author.Needs.{needs}
-use Rattle.release.proofs.free.Statement.{statement}
-use Rattle.release.proofs.free.Tie as tie
+use Rattle.release.proofs.free_units.Statement.{statement}
+use Rattle.release.proofs.free_units.Tie as tie
 
 painting : (c : tie.After-mark-released-area) → let a = c .before .before .before .before .before .before .args in painted (c .mark-released-area .result) (c .mark-released-area .last .1 .0) (c .mark-released-area .last .1 .1 .0)
-    ≡ markReleased (a .s .w) (blockAt (a .s) (a .j)) (a .i) (a .e) (a .used .now) (a .stop .now)
+    ≡ markReleased (a .s .w) (blockAt (a .s) (a .j)) (a .from) (a .to) (a .used .now) (a .stop .now)
 painting c =
     let a = c .before .before .before .before .before .before .args in
-    c .mark-released-area .ensures ∙ ap (λ (b : Block). markReleased (a .s .w) b (a .i) (a .e) (a .used .now) (a .stop .now)) (c .before .before .before .block-at .ensures)
+    c .mark-released-area .ensures ∙ ap (λ (b : Block). markReleased (a .s .w) b (a .from) (a .to) (a .used .now) (a .stop .now)) (c .before .before .before .block-at .ensures)
 
 -- the record is what marking leaves
-less : (c : tie.After-mark-released-area) → let a = c .before .before .before .before .before .before .args in c .mark-released-area .result ≡ released (blockAt (a .s) (a .j)) (a .i) (a .e)
+less : (c : tie.After-mark-released-area) → let a = c .before .before .before .before .before .before .args in c .mark-released-area .result ≡ released (blockAt (a .s) (a .j)) (a .from) (a .to)
 less c = ap (λ (p : Painted). p .block) (painting c)
 
 stays : (c : tie.After-mark-released-area) → let a = c .before .before .before .before .before .before .args in Stays (c .mark-released-area .result) (blockAt (a .s) (a .j))
-stays c = let a = c .before .before .before .before .before .before .args in subst (λ (b : Block). Stays b (blockAt (a .s) (a .j))) (sym (less (c))) (released-stays (blockAt (a .s) (a .j)) (a .i) (a .e))
+stays c = let a = c .before .before .before .before .before .before .args in subst (λ (b : Block). Stays b (blockAt (a .s) (a .j))) (sym (less (c))) (released-stays (blockAt (a .s) (a .j)) (a .from) (a .to))
 
 block-at-requires : tie.Need-block-at-requires
 block-at-requires c κs = let a = c .before .before .args in omega (arith, c .before .before .pre .0 .1, count-64 (a .s) (length (a .used .now)) (length (a .stop .now)) (c .before .before .pre .0 .0))
@@ -59,7 +59,7 @@ settles c live =
     let m = c .before .before .before .before .before .mark-released-area in
     subst (λ (r : State). Settles (withLive r live) (a .j) (length (m .last .1 .0)) (length (m .last .1 .1 .0))) (sym (c .less-used .ensures))
     (settles-after (a .s) (length (a .used .now)) (length (a .stop .now)) f (a .j) h (blocks-64 (a .s) _ (c .before .before .before .before .before .before .before .before .before .before .before .good .0)) (order-64 (a .s) _ (c .before .before .before .before .before .before .before .before .before .before .before .good .0))
-    (lengths.pool-3 (a .s) _ (c .before .before .before .before .before .before .before .before .before .before .before .good .0)) (m .result) (a .e - a .i) live (stays (c .before .before .before .before .before)) (length (m .last .1 .0)) (length (m .last .1 .1 .0))
+    (lengths.pool-3 (a .s) _ (c .before .before .before .before .before .before .before .before .before .before .before .good .0)) (m .result) (a .to - a .from) live (stays (c .before .before .before .before .before)) (length (m .last .1 .0)) (length (m .last .1 .1 .0))
     (omega (arith, p .room)) (omega (arith, p .stop-room)))
 
 settle-requires : tie.Need-settle-requires
@@ -72,7 +72,7 @@ returns c = λ x.
     let live = a .s .live - 1 in
     c .before .before .before .before .settle .ensures x
     ∙ ap (λ (r : State). settle x (withLive r live) (m .last .1 .0) (m .last .1 .1 .0) (a .j)) (c .before .before .before .before .before .before .before .before .less-used .ensures)
-    ∙ ap (λ (p : Painted). settle x (withLive (lessUsed (a .s) (a .j) (p .block) (a .e - a .i)) live) (p .used) (p .stop) (a .j)) (painting (c .before .before .before .before .before .before .before .before .before .before .before .before .before))
+    ∙ ap (λ (p : Painted). settle x (withLive (lessUsed (a .s) (a .j) (p .block) (a .to - a .from)) live) (p .used) (p .stop) (a .j)) (painting (c .before .before .before .before .before .before .before .before .before .before .before .before .before))
 
 sub-r : tie.Need-sub-r
 sub-r c = omega (arith, c .before .before .before .before .before .before .before .before .before .before .before .before .pre .1 .1)
@@ -86,8 +86,8 @@ same-length c = search needs
 same-length-2 : tie.Need-same-length-2
 same-length-2 c = search needs
 
-pub free-spec : {M : Type 1} → statement M
-free-spec =
+pub free-units-spec : {M : Type 1} → statement M
+free-units-spec =
     tie.close
     (tie.spec
     block-at-requires

@@ -1,4 +1,4 @@
--- `shape::pool_like` meets its contract, by immediate release. Assumes nothing.
+-- `shape::pool_matches` meets its contract, by immediate release. Assumes nothing.
 use Rattle.shape.proofs.Bools.{and-then}
 use Rattle.shape.proofs.Sums.{none-at-most}
 use lib.Dec.{leb}
@@ -9,8 +9,8 @@ use mathlib.Core.Path.{_≡_, sym, ap, _∙_}
 use mathlib.Core.Bool.{Bool, true}
 use borrow.Author.Tests.{not-true, not-false}
 use borrow.Author.Needs.{needs}
-use Rattle.shape.proofs.pools.pool_like.Statement.{statement}
-use Rattle.shape.proofs.pools.pool_like.Tie as tie
+use Rattle.shape.proofs.pools.pool_matches.Statement.{statement}
+use Rattle.shape.proofs.pools.pool_matches.Tie as tie
 
 same-pool-requires : tie.Need-same-pool-requires
 same-pool-requires c κs = search needs
@@ -32,5 +32,5 @@ returns-3 c =
     let e : samePool (a .stored) (a .sums) ≡ true = sym (c .before .before .before .same-pool .ensures) ∙ not-false (c .before .before .before .same-pool .result) (c .before .before .if1 .left) in
     and-then (samePool (a .stored) (a .sums)) (leb n (pick (a .immediate) 0 1)) _ e (ap (λ (i : Bool). leb n (pick i 0 1)) (sym (c .before .if2 .left)))
 
-pub pool-like-spec : {M : Type 1} → statement M
-pool-like-spec = tie.close (tie.spec same-pool-requires returns returns-2 returns-3)
+pub pool-matches-spec : {M : Type 1} → statement M
+pool-matches-spec = tie.close (tie.spec same-pool-requires returns returns-2 returns-3)
