@@ -10,11 +10,11 @@ ghost use lib.Dec.{eqb};
 ghost use Rattle.numbers.specs.Pick.{pick};
 ghost use Rattle.sizes.specs.declared.Rounded.the-variants.{To};
 ghost use Rattle.state.specs.declared.Refusal.the-variants.{InvalidArgument, TooLarge};
-ghost use Rattle.machine.specs.Turn.{turn};
+ghost use Rattle.machine.specs.Turn.{turnOf};
 ghost use Rattle.machine.specs.Alloc.{allocRounded, allocTurn};
 ghost use Rattle.shape_facts.specs.Ready.{Allocates};
 
-// The refusal of a size, by document 01's number.
+// Turns `round_size`'s number of a refusal into the refusal.
 fn size_refusal(number: u32) -> Refusal
     ensures { λ r. ⌜ r ≡ pick (eqb number 1) InvalidArgument TooLarge ⌝ }
 {
@@ -25,14 +25,14 @@ fn size_refusal(number: u32) -> Refusal
     }
 }
 
-// A size that is rounded and not refused: the first block of its pool that has a place, or a new one.
+// Grants `bytes` bytes, a rounded size that is not refused, in the first block of its pool that has a place, or in a new one.
 fn alloc_rounded(s: State, used: &mut [u32], stop: &mut [u32], bytes: u64) -> Outcome
     requires { ⌜ Allocates s (length (now used)) (length (now stop)) bytes ⌝ }
-    ensures { λ r. ⌜ turn (r .answer) (r .state) (now (used .exit)) (now (stop .exit)) ≡ allocRounded s (now (used .entry)) (now (stop .entry)) (To bytes) ⌝ }
+    ensures { λ r. ⌜ turnOf r (now (used .exit)) (now (stop .exit)) ≡ allocRounded s (now (used .entry)) (now (stop .entry)) (To bytes) ⌝ }
 {
     let p = sizes::size_to_pool_id(bytes, s.granularity, s.poolcount);
-    let pool = s.pools[p];
-    let n = numbers::area_size_from_byte_size(bytes, pool.granularity);
+    let q = s.pools[p];
+    let n = numbers::area_size_from_byte_size(bytes, q.granularity);
     let found = alloc_search::search_pool(s, used, p, n);
     let hit = found.hit;
     let r = found.state;
@@ -48,9 +48,9 @@ fn alloc_rounded(s: State, used: &mut [u32], stop: &mut [u32], bytes: u64) -> Ou
     }
 }
 
-// A span of at least `size` bytes.
+// Grants a span of at least `size` bytes.
 pub fn alloc(s: State, used: &mut [u32], stop: &mut [u32], size: u64) -> Outcome
-    ensures { λ r. ⌜ turn (r .answer) (r .state) (now (used .exit)) (now (stop .exit)) ≡ allocTurn s (now (used .entry)) (now (stop .entry)) size ⌝ }
+    ensures { λ r. ⌜ turnOf r (now (used .exit)) (now (stop .exit)) ≡ allocTurn s (now (used .entry)) (now (stop .entry)) size ⌝ }
 {
     if !shape::shape_ok(s, used.len(), stop.len()) {
         return state::refused(s, Refusal::BadShape);

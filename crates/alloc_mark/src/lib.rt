@@ -1,4 +1,4 @@
-// A span is granted in a block that has a place for it.
+// Grants a span in a block that has a place for it.
 use block::Block;
 use sizes::Pool;
 use state::Answer;
@@ -9,13 +9,14 @@ ghost use mathlib.Core.Path.{_≡_};
 ghost use Prim.Native.Nat.{_+_, _-_, _*_, _^_, _≤_, _<_};
 ghost use lib.ListN.{length};
 ghost use Rattle.numbers.specs.Units.{bytesOf};
+ghost use Rattle.sizes.specs.Limits.{slotLimit};
 ghost use Rattle.state.specs.Table.{blockAt, poolAt, one};
 ghost use Rattle.state.specs.Shape.{isEmpty};
-ghost use Rattle.machine.specs.Turn.{turn, span, putBlock, putPool, withLive, withCounts, unitOf};
+ghost use Rattle.machine.specs.Turn.{turnOf, span, putBlock, putPool, withLive, withCounts, unitOf};
 ghost use Rattle.machine.specs.Alloc.{allocMarked};
 ghost use Rattle.shape_facts.specs.Ready.{Markable};
 
-// 1 for a block that is flagged empty: its pool then keeps one empty block less.
+// Returns 1 for a block that is flagged empty, since its pool then keeps one empty block less; else 0.
 fn one_if_empty(b: Block) -> u32
     ensures { λ r. ⌜ r ≡ one (isEmpty b) ⌝ }
 {
@@ -26,20 +27,20 @@ fn one_if_empty(b: Block) -> u32
     }
 }
 
-// A block's pool once `n` of the block's units are marked.
-fn counted(pool: Pool, b: Block, n: u32) -> Pool
-    requires { ⌜ (one (isEmpty b) ≤ pool .empty) × (pool .used + n < 2 ^ 32) ⌝ }
-    ensures { λ r. ⌜ r ≡ withCounts pool (pool .empty - one (isEmpty b)) (pool .used + n) ⌝ }
+// Updates a pool's counts after `n` units of its block `b` were marked.
+fn counted(q: Pool, b: Block, n: u32) -> Pool
+    requires { ⌜ (one (isEmpty b) ≤ q .empty) × (q .used + n < 2 ^ 32) ⌝ }
+    ensures { λ r. ⌜ r ≡ withCounts q (q .empty - one (isEmpty b)) (q .used + n) ⌝ }
 {
-    let mut r = pool;
-    r.empty = pool.empty - one_if_empty(b);
-    r.used = pool.used + n;
+    let mut r = q;
+    r.empty = q.empty - one_if_empty(b);
+    r.used = q.used + n;
     r
 }
 
-// The span of `n` units from unit `from` on of block `j`. It starts behind the span that the units before it would make.
+// Makes the span of `n` units of block `j` at base + `from` units.
 fn span_from(s: State, j: usize, from: u32, n: u32) -> Span
-    requires { ⌜ (j < 64) × (blockAt s j .pool < 3) × (from + n ≤ blockAt s j .area) × (blockAt s j .base + blockAt s j .area * unitOf s (blockAt s j) < 2 ^ 64) ⌝ }
+    requires { ⌜ (j < slotLimit) × (blockAt s j .pool < 3) × (from + n ≤ blockAt s j .area) × (blockAt s j .base + blockAt s j .area * unitOf s (blockAt s j) < 2 ^ 64) ⌝ }
     ensures { λ r. ⌜ r ≡ span (blockAt s j .base + bytesOf from (unitOf s (blockAt s j))) (bytesOf n (unitOf s (blockAt s j))) ⌝ }
 {
     let b = state::block_at(s, j);
@@ -47,9 +48,9 @@ fn span_from(s: State, j: usize, from: u32, n: u32) -> Span
     spans::span_at(s, j, b.base + before.size, n)
 }
 
-// The record with block `j` marked: it becomes `marked`, `n` of its units and one span more are counted.
+// Writes block `j`'s record `marked` into the table, and counts its `n` units and one live span more.
 fn with_span(s: State, j: usize, marked: Block, n: u32) -> State
-    requires { ⌜ (j < 64) × (blockAt s j .pool < 3) × (one (isEmpty (blockAt s j)) ≤ poolAt s (blockAt s j .pool) .empty) ⌝ }
+    requires { ⌜ (j < slotLimit) × (blockAt s j .pool < 3) × (one (isEmpty (blockAt s j)) ≤ poolAt s (blockAt s j .pool) .empty) ⌝ }
     requires { ⌜ (poolAt s (blockAt s j .pool) .used + n < 2 ^ 32) × (s .live + 1 < 2 ^ 64) ⌝ }
     ensures { λ r. ⌜ r ≡ withLive (putPool (putBlock s j marked) (blockAt s j .pool)
         (withCounts (poolAt s (blockAt s j .pool)) (poolAt s (blockAt s j .pool) .empty - one (isEmpty (blockAt s j))) (poolAt s (blockAt s j .pool) .used + n))) (s .live + 1) ⌝ }
@@ -64,10 +65,17 @@ fn with_span(s: State, j: usize, marked: Block, n: u32) -> State
     r
 }
 
-// A span of `n` units from unit `from` on of the block of age `j`.
-pub fn mark_span(s: State, used: &mut [u32], stop: &mut [u32], j: usize, from: u32, n: u32) -> Outcome
+// Marks `n` units from unit `from` on in the block of age `j`, and grants them as a span.
+pub fn mark_span(
+    s: State,
+    used: &mut [u32],
+    stop: &mut [u32],
+    j: usize,
+    from: u32,
+    n: u32,
+) -> Outcome
     requires { ⌜ Markable s (length (now used)) (length (now stop)) j from n ⌝ }
-    ensures { λ r. ⌜ turn (r .answer) (r .state) (now (used .exit)) (now (stop .exit)) ≡ allocMarked s (now (used .entry)) (now (stop .entry)) j from n ⌝ }
+    ensures { λ r. ⌜ turnOf r (now (used .exit)) (now (stop .exit)) ≡ allocMarked s (now (used .entry)) (now (stop .entry)) j from n ⌝ }
 {
     let b = state::block_at(s, j);
     let span = span_from(s, j, from, n);

@@ -1,4 +1,4 @@
-// A new block for a pool, with a span in it.
+// Makes a new block for a pool, with a span in it.
 use block::Block;
 use state::Found;
 use state::Outcome;
@@ -8,14 +8,14 @@ use state::State;
 ghost use mathlib.Core.Path.{_≡_};
 ghost use lib.ListN.{length};
 ghost use Rattle.state.specs.Change.{inserted};
-ghost use Rattle.machine.specs.Turn.{turn, clearSlot};
+ghost use Rattle.machine.specs.Turn.{turnOf, clearSlot};
 ghost use Rattle.machine.specs.Alloc.{allocMarked, allocNew};
 ghost use Rattle.shape_facts.specs.Ready.{Makeable, Makes};
 
-// A block at its place and slot, with a span of `n` units at unit 0.
+// Clears the slot of the new block `b`, enters `b` into the table and grants a span of `n` units at its unit 0.
 fn make_span(s: State, used: &mut [u32], stop: &mut [u32], b: Block, n: u32) -> Outcome
     requires { ⌜ Makeable s (length (now used)) (length (now stop)) b n ⌝ }
-    ensures { λ r. ⌜ turn (r .answer) (r .state) (now (used .exit)) (now (stop .exit)) ≡ allocMarked (inserted s b) (clearSlot (s .w) (b .slot) (now (used .entry))) (clearSlot (s .w) (b .slot) (now (stop .entry))) (s .count) 0 n ⌝ }
+    ensures { λ r. ⌜ turnOf r (now (used .exit)) (now (stop .exit)) ≡ allocMarked (inserted s b) (clearSlot (s .w) (b .slot) (now (used .entry))) (clearSlot (s .w) (b .slot) (now (stop .entry))) (s .count) 0 n ⌝ }
 {
     let w = s.w;
     let slot = b.slot;
@@ -26,7 +26,8 @@ fn make_span(s: State, used: &mut [u32], stop: &mut [u32], b: Block, n: u32) -> 
     alloc_mark::mark_span(r, used, stop, count, 0, n)
 }
 
-// A block of `bytes` bytes for pool `p`, with a span of `n` units at unit 0; refusal 4 if there is no place, no slot, or its words exceed W.
+// Makes a block of `bytes` bytes for pool `p`, and grants a span of `n` units at its unit 0.
+// Refuses (4) if there is no place, no free slot, or the block's words exceed W.
 pub fn new_span(
     s: State,
     used: &mut [u32],
@@ -36,18 +37,18 @@ pub fn new_span(
     bytes: u64,
 ) -> Outcome
     requires { ⌜ Makes s (length (now used)) (length (now stop)) p n bytes ⌝ }
-    ensures { λ r. ⌜ turn (r .answer) (r .state) (now (used .exit)) (now (stop .exit)) ≡ allocNew s (now (used .entry)) (now (stop .entry)) p n bytes ⌝ }
+    ensures { λ r. ⌜ turnOf r (now (used .exit)) (now (stop .exit)) ≡ allocNew s (now (used .entry)) (now (stop .entry)) p n bytes ⌝ }
 {
     let place = table::lowest_place(s, bytes);
-    let Place::Address(at) = place else {
+    let Place::Base(at) = place else {
         return state::refused(s, Refusal::NoMapping);
     };
     let slot = table::lowest_free_slot(s);
     let Found::At(k) = slot else {
         return state::refused(s, Refusal::NoMapping);
     };
-    let pool = state::pool_at(s, p);
-    let area = numbers::area_size_from_byte_size(bytes, pool.granularity);
+    let q = state::pool_at(s, p);
+    let area = numbers::area_size_from_byte_size(bytes, q.granularity);
     let words = numbers::area_size_from_byte_size(area as u64, 32);
     if s.w < words as usize {
         return state::refused(s, Refusal::NoMapping);

@@ -16,12 +16,12 @@ bit ws k = digit (getD ws (k / 32) 0) (k % 32)
 abbrev pub Words : List ℕ → Type 0
 Words ws = (i : ℕ) → getD ws i 0 < 2 ^ 32
 
--- vs are the words ws with v for each of the n bits from a on, and every other bit as it was
-pub record Filled (ws : List ℕ) (a n v : ℕ) (vs : List ℕ) : Type 0 where
+-- vs are the words ws with v for each of the n bits from `from` on, and every other bit as it was
+pub record Filled (ws : List ℕ) (from n v : ℕ) (vs : List ℕ) : Type 0 where
   pub size : length vs ≡ length ws
-  pub inside : (k : ℕ) → a ≤ k → k < a + n → bit vs k ≡ v
-  pub below : (k : ℕ) → k < a → bit vs k ≡ bit ws k
-  pub above : (k : ℕ) → a + n ≤ k → bit vs k ≡ bit ws k
+  pub inside : (k : ℕ) → from ≤ k → k < from + n → bit vs k ≡ v
+  pub below : (k : ℕ) → k < from → bit vs k ≡ bit ws k
+  pub above : (k : ℕ) → from + n ≤ k → bit vs k ≡ bit ws k
 
 -- r is the first bit from start on that is v, or the number of bits if there is none
 pub record FirstAt (ws : List ℕ) (start v r : ℕ) : Type 0 where
@@ -30,12 +30,13 @@ pub record FirstAt (ws : List ℕ) (start v r : ℕ) : Type 0 where
   pub before : (k : ℕ) → start ≤ k → k < r → bit ws k ≡ v → ⊥
   pub found : r < 32 * length ws → bit ws r ≡ v
 
--- how many of the n bits from a on are set
+-- how many of the n bits from `from` on are set
 unfoldable pub ones : List ℕ → ℕ → ℕ → ℕ
-ones ws a zero = 0
-ones ws a (suc n) = ones ws a n + bit ws (a + n)
+ones ws from zero = 0
+ones ws from (suc n) = ones ws from n + bit ws (from + n)
 
--- ---- the words that `Filled` describes, as a function: proofs/Fill.antt has `filled-has`, that they are such, and `filled-is`, that no others are
+-- ---- the words that `Filled` describes, as a function. proofs/Filled.antt proves that they are `Filled` (`filled-has`) and that no others
+-- are (`filled-is`)
 
 -- w with v for its digit i
 unfoldable pub put : ℕ → ℕ → ℕ → ℕ
@@ -45,7 +46,7 @@ put w i v = w - digit w i * 2 ^ i + v * 2 ^ i
 unfoldable pub setBit : List ℕ → ℕ → ℕ → List ℕ
 setBit ws k v = set ws (k / 32) (put (getD ws (k / 32) 0) (k % 32) v)
 
--- ws with v for each of the n bits from a on
+-- ws with v for each of the n bits from `from` on
 unfoldable pub filled : List ℕ → ℕ → ℕ → ℕ → List ℕ
-filled ws a zero v = ws
-filled ws a (suc n) v = setBit (filled ws a n v) (a + n) v
+filled ws from zero v = ws
+filled ws from (suc n) v = setBit (filled ws from n v) (from + n) v

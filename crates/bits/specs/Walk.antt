@@ -6,14 +6,14 @@ use mathlib.Core.Path.{_≡_}
 use lib.ListN.{length}
 use Rattle.bits.specs.Bits.{digit, bit}
 
--- the digits of the word w that are b, as ones
+-- a word with a one wherever w's digit is b
 abbrev pub flipped : ℕ → Bool → ℕ
 flipped w true = w
 flipped w false = (2 ^ 32 - 1) - w
 
--- A walk from bit p to bit end, in search of the bits that are v, stands at word at: no bit from p on and before that word is v, and
--- the ones of word are those bits of it that are v and not before p. What lies from end on is left open. A walk through a window that
--- is empty may stand behind the last word, with no ones.
+-- A walk that searches the bits from p up to end for those that are v stands at word number at: no bit from p up to that word is v, and
+-- the ones of word are its bits that are v and not before p. Nothing is said of bits from end on. In an empty window a walk may stand after
+-- the last word, with no ones.
 pub record Seen (ws : List ℕ) (end p v at word : ℕ) : Type 0 where
   pub stands : at ≤ length ws
   pub near : p ≤ 32 * at + 32

@@ -1,10 +1,10 @@
-// Ranges of bits of maps over lent 32-bit words, as `bit_vector_fill` and `bit_vector_clear` of the Rust's util/mod.rs.
+// Sets and clears ranges of bits in lent 32-bit words: `bit_vector_fill` and `bit_vector_clear` of the Rust's util/mod.rs.
 ghost use Prim.Native.Nat.{_+_, _*_, _^_, _<_, _≤_};
 ghost use mir.Val.{boolByte};
 ghost use lib.ListN.{length};
 ghost use Rattle.bits.specs.Bits.{Filled};
 
-// Unit by unit.
+// Writes `count` bits from bit `index` on, one at a time.
 fn put_bits(buf: &mut [u32], index: usize, count: usize, value: bool)
     requires { ⌜ (index + count ≤ 32 * length (now buf)) × (length (now buf) < 2 ^ 32) ⌝ }
     ensures { λ _. ⌜ Filled (now (buf .entry)) index count (boolByte value) (now (buf .exit)) ⌝ }
@@ -16,7 +16,7 @@ fn put_bits(buf: &mut [u32], index: usize, count: usize, value: bool)
     }
 }
 
-// Fill and clear in one, as the Rust's macro: the part from the first word that is touched is lent on, and no word before it.
+// Sets or clears, as the Rust's macro does. It lends on only the words from the first one that changes.
 fn bitvector_op(buf: &mut [u32], index: usize, count: usize, value: bool)
     requires { ⌜ (index + count ≤ 32 * length (now buf)) × (length (now buf) < 2 ^ 32) ⌝ }
     ensures { λ _. ⌜ Filled (now (buf .entry)) index count (boolByte value) (now (buf .exit)) ⌝ }

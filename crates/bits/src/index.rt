@@ -1,4 +1,4 @@
-// The search for a bit in a map over lent words: `bit_vector_index_of` of the Rust's util/mod.rs.
+// Searches lent words for a bit: `bit_vector_index_of` of the Rust's util/mod.rs.
 ghost use mathlib.Core.Path.{_≡_};
 ghost use Prim.Native.Nat.{_*_, _^_, _<_};
 ghost use mir.Val.{boolByte};
@@ -6,14 +6,14 @@ ghost use lib.ListN.{length};
 ghost use Rattle.bits.specs.Bits.{FirstAt};
 ghost use Rattle.bits.specs.Walk.{flipped};
 
-// The bits of `w` that are `value`, as ones: the Rust's `w ^ flip_mask`.
+// Returns a word with a one wherever `w`'s bit is `value`: the Rust's `w ^ flip_mask`.
 fn flip(w: u32, value: bool) -> u32
     ensures { λ r. ⌜ r ≡ flipped w value ⌝ }
 {
     if value { w } else { !w }
 }
 
-// The first bit from `start` on that is `value`, or the number of bits.
+// Returns the first bit from `start` on that is `value`, or the number of bits if there is none.
 pub fn bit_vector_index_of(buf: &[u32], start: usize, value: bool) -> usize
     requires { ⌜ (start < 32 * length (now buf)) × (length (now buf) < 2 ^ 32) ⌝ }
     ensures { λ r. ⌜ FirstAt (now (buf .entry)) start (boolByte value) r ⌝ }

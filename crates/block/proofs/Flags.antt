@@ -17,9 +17,9 @@ and-pow : (f j : ℕ) → bitAnd f (2 ^ j) ≡ digit f j * 2 ^ j
 and-pow f zero = and-mask f 1 ∙ omega (arith, digit-zero f)
 and-pow f (suc j) =
     let half : 2 ^ suc j / 2 ≡ 2 ^ j = ap (λ (x : ℕ). x / 2) (pow-suc 2 j) ∙ omega arith in
-    let even : 2 ^ suc j % 2 ≡ 0 = ap (λ (x : ℕ). x % 2) (pow-suc 2 j) ∙ omega arith in
+    let whole : 2 ^ suc j % 2 ≡ 0 = ap (λ (x : ℕ). x % 2) (pow-suc 2 j) ∙ omega arith in
     and-step f (2 ^ suc j)
-    ∙ ap₂ (λ (x y : ℕ). bitAnd (f / 2) x * 2 + min (f % 2) y) half even
+    ∙ ap₂ (λ (x y : ℕ). bitAnd (f / 2) x * 2 + min (f % 2) y) half whole
     ∙ ap (λ (x : ℕ). x * 2 + min (f % 2) 0) (and-pow (f / 2) j)
     ∙ omega (arith, ap (λ (x : ℕ). x * 2 ^ suc j) (digit-suc f j), ap (λ (x : ℕ). digit (f / 2) j * x) (pow-suc 2 j), sym (mul-assoc (digit (f / 2) j) (2 ^ j) 2))
 

@@ -6,7 +6,8 @@ use mathlib.Core.Path.{_≡_, sym, _∙_}
 use native.Mathlib.Omega.{arith}
 use lib.ListN.{length}
 use borrow.Author.Tests.{eq-eqb, ne-eqb}
-use Rattle.numbers.proofs.Split.{by-eq, by-le, not-both}
+use Rattle.numbers.proofs.Bools.{not-both}
+use Rattle.numbers.proofs.Split.{by-eq, by-le}
 use Rattle.bits.specs.Bits.{bit, ones, Filled}
 use Rattle.bits.proofs.Count.{ones-filled, ones-all-one, ones-none}
 use Rattle.block.specs.declared.Block.{Block}

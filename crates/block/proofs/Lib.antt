@@ -1,3 +1,4 @@
 pub mod Flags
 pub mod Window
 pub mod Kept
+pub mod LiesAs

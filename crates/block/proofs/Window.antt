@@ -10,7 +10,8 @@ use lib.Dec.{lit<, leb}
 use lib.ListN.{length}
 use borrow.Author.Tests.{le-leb}
 use Rattle.numbers.specs.Pick.{pick}
-use Rattle.numbers.proofs.Split.{by-le, not-both, same-of-not-lt}
+use Rattle.numbers.proofs.Bools.{not-both}
+use Rattle.numbers.proofs.Split.{by-le, same-of-not-lt}
 use Rattle.bits.specs.Bits.{ones, filled}
 use Rattle.bits.proofs.Filled.{filled-has}
 use Rattle.bits.proofs.Count.{ones-le, ones-filled}

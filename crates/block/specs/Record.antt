@@ -3,6 +3,7 @@ use Prim.Native.Nat.{ℕ, _+_, _-_, _*_, _^_, _≤_, _<_}
 use mathlib.Core.Bool.{Bool, not}
 use lib.Dec.{eqb}
 use lib.Bits.{bitAnd, bitOr}
+use Rattle.numbers.specs.Names.{Units}
 use Rattle.block.specs.declared.Block.{Block}
 
 -- the two flags, by their numbers in the source
@@ -23,7 +24,7 @@ abbrev pub off : ℕ → ℕ → ℕ
 off flags flag = bitAnd flags (2 ^ 32 - 1 - flag)
 
 -- b with other flags, used count, window and largest run; where it lies and its size never change
-abbrev pub withNumbers : Block → ℕ → ℕ → ℕ → ℕ → ℕ → Block
+abbrev pub withNumbers : Block → ℕ → Units → Units → Units → Units → Block
 withNumbers b flags used start end largest = record {
   base = b .base;
   size = b .size;
@@ -47,6 +48,6 @@ pub record Placed (b : Block) (w usedWords stopWords : ℕ) : Type 0 where
   pub start : b .start ≤ b .area
   pub end : b .end ≤ b .area
 
--- the units from i up to e, at least one, lie in the block
-abbrev pub SpanIn : Block → ℕ → ℕ → Type 0
-SpanIn b i e = (i < e) × (e ≤ b .area)
+-- the units from `from` up to `to`, at least one, lie in the block
+abbrev pub SpanIn : Block → Units → Units → Type 0
+SpanIn b from to = (from < to) × (to ≤ b .area)

@@ -1,4 +1,5 @@
--- What a block's window, largest-run field and used count promise of its part u of the used map, in every state that calls reach. Assumes nothing.
+-- What a block's window, largest-run field and used count say of its words u of the used map, in every state that calls reach.
+-- Assumes nothing.
 use Prim.Native.Nat.{ℕ, _+_, _*_, _≤_, _<_}
 use mathlib.Core.Bool.{false}
 use mathlib.Core.List.{List}

@@ -1,4 +1,4 @@
-// One block's record, and what marking does to it. `JitAllocatorBlock` in the Rust.
+// One block's record, and how marking changes it. `JitAllocatorBlock` in the Rust.
 pub mod look;
 pub mod mark;
 
@@ -7,8 +7,8 @@ ghost use Prim.Native.Nat.{_+_, _-_, _<_, _≤_, min, max};
 ghost use Rattle.block.specs.Record.{SpanIn};
 ghost use Rattle.block.specs.Marking.{moved, marked, released, shrunk, fresh};
 
-// A block of `area` units from address `base` on. Its maps are the words of slot `slot`. `start` and `end` are its search window,
-// `largest` the longest free run that a search has seen.
+// A block of `area` units from address `base` on. Its bits are in slot `slot` of both maps. `start` and `end` are its search window,
+// and `largest` is the longest free run that a search has seen.
 pub struct Block {
     pub base: u64,
     pub size: u64,
@@ -41,14 +41,14 @@ fn greater(a: u32, b: u32) -> u32
     if a < b { b } else { a }
 }
 
-// A window's edge that equals the span's own edge moves to its other edge.
+// Moves a window's edge that equals the span's edge `own` to the span's `other` edge; leaves any other edge.
 fn moved_edge(edge: u32, own: u32, other: u32) -> u32
     ensures { λ r. ⌜ r ≡ moved edge own other ⌝ }
 {
     if edge == own { other } else { edge }
 }
 
-// The record once the units from `from` up to `to` are a span.
+// Updates the record after the units from `from` up to `to` became a span.
 pub fn marked_record(b: Block, from: u32, to: u32) -> Block
     requires { ⌜ SpanIn b from to × (b .used + (to - from) ≤ b .area) ⌝ }
     ensures { λ r. ⌜ r ≡ marked b from to ⌝ }
@@ -70,7 +70,7 @@ pub fn marked_record(b: Block, from: u32, to: u32) -> Block
     r
 }
 
-// The record once the span from `from` up to `to` is gone.
+// Updates the record after the span from `from` up to `to` was freed.
 pub fn released_record(b: Block, from: u32, to: u32) -> Block
     requires { ⌜ SpanIn b from to × (to - from ≤ b .used) ⌝ }
     ensures { λ r. ⌜ r ≡ released b from to ⌝ }
@@ -91,7 +91,7 @@ pub fn released_record(b: Block, from: u32, to: u32) -> Block
     r
 }
 
-// The record once the tail from `from` up to `to` is cut off a span.
+// Updates the record after the tail from `from` up to `to` of a span was freed.
 pub fn shrunk_record(b: Block, from: u32, to: u32) -> Block
     requires { ⌜ SpanIn b from to × (to - from ≤ b .used) ⌝ }
     ensures { λ r. ⌜ r ≡ shrunk b from to ⌝ }
@@ -104,7 +104,7 @@ pub fn shrunk_record(b: Block, from: u32, to: u32) -> Block
     r
 }
 
-// A new block for a span of `n` units at unit 0, before its marking.
+// Makes the record of a new block that gets a span of `n` units at unit 0, before that span is marked.
 pub fn new_block(base: u64, size: u64, pool: usize, slot: usize, area: u32, n: u32) -> Block
     requires { ⌜ n ≤ area ⌝ }
     ensures { λ r. ⌜ r ≡ fresh base size pool slot area n ⌝ }
@@ -123,8 +123,7 @@ pub fn new_block(base: u64, size: u64, pool: usize, slot: usize, area: u32, n: u
     }
 }
 
-// What a look for free units in one block comes to: the lowest place; or the block as it is from then on, its window tightened if the search
-// has seen a free unit.
+// The result of a search in one block: the lowest place; or the block's new record, its window tightened if the search saw a free unit.
 pub enum Looked {
     Found(u32),
     Missed(Block),

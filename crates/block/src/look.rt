@@ -1,4 +1,4 @@
-// The search for free units in one block.
+// Searches one block for free units.
 use crate::Block;
 use crate::Looked;
 ghost use mathlib.Core.Path.{_≡_};
@@ -7,7 +7,7 @@ ghost use lib.ListN.{length};
 ghost use Rattle.block.specs.Record.{Placed};
 ghost use Rattle.block.specs.Search.{worthSearching, tightened, lookInto};
 
-// The block is looked into: enough units are free, and the longest run that was seen is long enough or out of date.
+// True if enough units are free, and `largest` is long enough or out of date.
 fn worth_searching(b: Block, n: u32) -> bool
     requires { ⌜ b .used ≤ b .area ⌝ }
     ensures { λ r. ⌜ r ≡ worthSearching b n ⌝ }
@@ -32,7 +32,7 @@ fn tightened_record(b: Block, first: u32, last: u32, longest: u32) -> Block
     r
 }
 
-// The search for `n` free units in one block.
+// Finds the lowest `n` free units in a row in a block's window, or tightens the window.
 pub fn look_into(b: Block, used: &[u32], w: usize, n: u32) -> Looked
     requires { ⌜ Placed b w (length (now used)) (length (now used)) × (0 < n) ⌝ }
     ensures { λ r. ⌜ r ≡ lookInto w b (now (used .entry)) n ⌝ }

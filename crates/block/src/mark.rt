@@ -1,4 +1,4 @@
-// A span is marked in a block's parts of the two maps, released or shrunk.
+// Marks, frees and shortens a span in a block's slot of both maps, and updates the block's record.
 use crate::Block;
 ghost use mathlib.Core.Path.{_≡_};
 ghost use Prim.Native.Nat.{_+_, _-_, _*_, _^_, _<_, _≤_};
@@ -7,7 +7,7 @@ ghost use Rattle.slots.specs.Slots.{fillSlot};
 ghost use Rattle.block.specs.Record.{Placed, SpanIn};
 ghost use Rattle.block.specs.Marking.{painted, markAllocated, markReleased, markShrunk};
 
-// The units from `from` up to `to` become a span: used bits on, and the stop bit on at the last one.
+// Marks the units from `from` up to `to` as a span: sets their used bits, and the stop bit of the last one.
 pub fn mark_allocated_area(
     b: Block,
     used: &mut [u32],
@@ -25,7 +25,7 @@ pub fn mark_allocated_area(
     crate::marked_record(b, from, to)
 }
 
-// The units from `from` up to `to` of a slot become free: used bits off, and the last stop bit off.
+// Frees the units from `from` up to `to` of a slot: clears their used bits, and the stop bit of the last one.
 fn unmark_area(used: &mut [u32], stop: &mut [u32], slot: usize, w: usize, from: u32, to: u32)
     requires { ⌜ ((slot + 1) * w ≤ length (now used)) × ((slot + 1) * w ≤ length (now stop)) × (from < to) × (to ≤ 32 * w) × (w < 2 ^ 32) ⌝ }
     ensures { λ _. ⌜ (now (used .exit) ≡ fillSlot w slot (now (used .entry)) from (to - from) 0) × (now (stop .exit) ≡ fillSlot w slot (now (stop .entry)) (to - 1) 1 0) ⌝ }
@@ -34,7 +34,7 @@ fn unmark_area(used: &mut [u32], stop: &mut [u32], slot: usize, w: usize, from: 
     slots::unmark(stop, slot, w, (to - 1) as usize, 1);
 }
 
-// The span from `from` up to `to` goes.
+// Frees the span from `from` up to `to`.
 pub fn mark_released_area(
     b: Block,
     used: &mut [u32],
@@ -50,7 +50,7 @@ pub fn mark_released_area(
     crate::released_record(b, from, to)
 }
 
-// The tail from `from` up to `to` of a span goes, and a stop bit goes on at the new last unit.
+// Frees the tail from `from` up to `to` of a span, and sets the stop bit of the span's new last unit.
 pub fn mark_shrunk_area(
     b: Block,
     used: &mut [u32],

@@ -14,7 +14,7 @@ use Rattle.state.specs.declared.State.{State}
 use Rattle.state.specs.declared.Found.{Found}
 use Rattle.state.specs.declared.Found.the-variants.{At, Nothing}
 use Rattle.state.specs.declared.Held.{Held}
-use Rattle.state.specs.declared.Held.the-variants.{NoSpan, NoStop, Units}
+use Rattle.state.specs.declared.Held.the-variants.{NoSpan, NoStop, Range}
 use Rattle.state.specs.declared.Refusal.{Refusal}
 use Rattle.state.specs.declared.Refusal.the-variants.{BadShape}
 use Rattle.state.specs.declared.Answer.{Answer}
@@ -46,7 +46,7 @@ granted-goes s x (Refused r) h = six h
 still-held : (s : State) (u t : List ℕ) (a j : ℕ) (h : Held) → turn (queryHeld s u t a j h .answer) s u t ≡ queryHeld s u t a j h
 still-held s u t a j NoSpan = refl
 still-held s u t a j NoStop = refl
-still-held s u t a j (Units i e) = refl
+still-held s u t a j (Range i e) = refl
 
 still-found : (s : State) (u t : List ℕ) (a : ℕ) (f : Found) → turn (queryFound s u t a f .answer) s u t ≡ queryFound s u t a f
 still-found s u t a Nothing = refl

@@ -1,4 +1,4 @@
--- A record's call, as the machine's. Assumes nothing.
+-- The machine's call for the call of a trace's record. Assumes nothing.
 use Rattle.machine.specs.Create.{Asked}
 use Rattle.machine.specs.Machine as machine
 use Rattle.records.specs.declared.Asked as read

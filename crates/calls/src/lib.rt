@@ -1,17 +1,17 @@
-// A record's call, made as the machine makes it.
+// Makes the call that a trace's record asks for.
 use records::Asked;
 use records::Call;
 use state::Answer;
 use state::Outcome;
 use state::State;
 ghost use mathlib.Core.Path.{_≡_};
-ghost use Rattle.machine.specs.Turn.{turn};
+ghost use Rattle.machine.specs.Turn.{turnOf};
 ghost use Rattle.machine.specs.Machine.{create, step};
 ghost use Rattle.calls.specs.Calls.{askedBy, callBy};
 
-// A creation. A refused one isn't a state reached: the trace goes on with the state before it.
+// Creates an allocator. If that is refused, the trace goes on with the state before it, since nothing was created.
 fn call_create(s: State, used: &mut [u32], stop: &mut [u32], a: Asked) -> Outcome
-    ensures { λ r. ⌜ turn (r .answer) (r .state) (now (used .exit)) (now (stop .exit)) ≡ step s (now (used .entry)) (now (stop .entry)) (create (askedBy a)) ⌝ }
+    ensures { λ r. ⌜ turnOf r (now (used .exit)) (now (stop .exit)) ≡ step s (now (used .entry)) (now (stop .entry)) (create (askedBy a)) ⌝ }
 {
     let made = create::create(
         a.size,
@@ -30,9 +30,9 @@ fn call_create(s: State, used: &mut [u32], stop: &mut [u32], a: Asked) -> Outcom
     made
 }
 
-// One call, as the machine makes it.
+// Makes one call.
 pub fn call(s: State, used: &mut [u32], stop: &mut [u32], c: Call) -> Outcome
-    ensures { λ r. ⌜ turn (r .answer) (r .state) (now (used .exit)) (now (stop .exit)) ≡ step s (now (used .entry)) (now (stop .entry)) (callBy c) ⌝ }
+    ensures { λ r. ⌜ turnOf r (now (used .exit)) (now (stop .exit)) ≡ step s (now (used .entry)) (now (stop .entry)) (callBy c) ⌝ }
 {
     match c {
         Call::Create(a) => call_create(s, used, stop, a),

@@ -1,4 +1,4 @@
--- What creation is asked for, as the record that its rule reads. Assumes nothing.
+-- The numbers handed to creation, as one record. Assumes nothing.
 use Prim.Native.Nat.{ℕ}
 use Rattle.machine.specs.Create.{Asked}
 

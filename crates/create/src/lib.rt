@@ -5,53 +5,47 @@ use state::Outcome;
 use state::Refusal;
 use state::State;
 ghost use mathlib.Core.Path.{_≡_};
-ghost use Prim.Native.Nat.{_<_, _≤_, min};
+ghost use Prim.Native.Nat.{_<_, _≤_};
 ghost use lib.ListN.{length};
 ghost use Rattle.state.specs.declared.Refusal.the-variants.{InvalidArgument};
 ghost use Rattle.state.specs.declared.Answer.the-variants.{Created};
 ghost use Rattle.state.specs.Table.{zeroState};
 ghost use Rattle.state.specs.Outcome.{refusal};
-ghost use Rattle.machine.specs.Turn.{turn};
+ghost use Rattle.machine.specs.Turn.{turnOf};
 ghost use Rattle.machine.specs.Create.{poolsAsked, immediateAsked, slotsOf, grantable, freshState, cleared, createTurn};
 ghost use Rattle.create.specs.Asked.{asked};
 
-fn lesser(a: usize, b: usize) -> usize
-    ensures { λ r. ⌜ r ≡ min a b ⌝ }
-{
-    if a < b { a } else { b }
-}
-
-// Bit 0 of the flags asks for three pools.
+// Returns the number of pools: bit 0 of the flags asks for three.
 fn pools_asked(flags: u32) -> usize
     ensures { λ r. ⌜ r ≡ poolsAsked flags ⌝ }
 {
     if flags % 2 == 0 { 1 } else { 3 }
 }
 
-// Bit 1 asks that an empty block goes at once.
+// True if bit 1 of the flags asks for immediate release: no empty block is kept.
 fn immediate_asked(flags: u32) -> bool
     ensures { λ r. ⌜ r ≡ immediateAsked flags ⌝ }
 {
     flags / 2 % 2 != 0
 }
 
-// How many slots come into force: not more than the table has, and only whole ones in both slices.
+// Returns how many slots the allocator has: those of `w` words that fit whole into both slices, at most 64.
 fn slots_of(w: usize, used: usize, stop: usize) -> usize
     requires { ⌜ 0 < w ⌝ }
     ensures { λ r. ⌜ r ≡ slotsOf w used stop ⌝ }
 {
-    let words = lesser(used, stop);
-    lesser(state::SLOT_LIMIT, words / w)
+    let words = numbers::lesser(used, stop);
+    numbers::lesser(state::SLOT_LIMIT, words / w)
 }
 
-// `w` is tested first, since the slots are counted by a division by it.
+// True if W, the slot count and the arena are in range. It tests `w` first, since `slots_of` divides by it.
 fn is_grantable(w: usize, arena: u64, length: u64, used: usize, stop: usize) -> bool
     ensures { λ r. ⌜ r ≡ grantable (asked 0 0 0 w arena length) used stop ⌝ }
 {
     if w < 1 {
         return false;
     }
-    if w > 16384 {
+    if w > state::MAX_SLOT_WORDS {
         return false;
     }
     if slots_of(w, used, stop) < 1 {
@@ -60,7 +54,7 @@ fn is_grantable(w: usize, arena: u64, length: u64, used: usize, stop: usize) -> 
     shape::creation::arena_ok(arena, length)
 }
 
-// The first `n` words cleared, no later ones.
+// Clears the first `n` words, and no later ones.
 fn clear_words(words: &mut [u32], n: usize)
     requires { ⌜ n ≤ length (now words) ⌝ }
     ensures { λ _. ⌜ now (words .exit) ≡ cleared n (now (words .entry)) ⌝ }
@@ -72,7 +66,7 @@ fn clear_words(words: &mut [u32], n: usize)
     }
 }
 
-// The record of an allocator with no block.
+// Makes the record of an allocator with no block.
 fn fresh_state(
     size: u32,
     granularity: u32,
@@ -99,13 +93,13 @@ fn fresh_state(
         length,
         live: 0,
         count: 0,
-        blocks: [state::zero_block(); 64],
-        order: [0; 64],
+        blocks: [state::zero_block(); state::SLOT_LIMIT],
+        order: [0; state::SLOT_LIMIT],
         pools: [Pool::new(unit); 3],
     }
 }
 
-// The answer to a creation that is granted has what is in force.
+// Makes the outcome of a granted creation. Its answer tells the size, granularity and pool count in force.
 fn created(state: State) -> Outcome
     ensures { λ r. ⌜ (r .state ≡ state) × (r .answer ≡ Created (state .size) (state .granularity) (state .poolcount)) ⌝ }
 {
@@ -121,8 +115,8 @@ fn not_granted() -> Outcome
     state::refused(state::zero_state(), Refusal::InvalidArgument)
 }
 
-// An allocator over the two slices and the arena. A size or a granularity that is not listed becomes the least one; other numbers out of
-// their range are refused, and then no word is written.
+// Creates an allocator over the two slices and the arena. A size or a granularity that is not listed becomes the least one; any other
+// number out of its range is refused, and then no word is written.
 pub fn create(
     size: u32,
     granularity: u32,
@@ -133,7 +127,7 @@ pub fn create(
     used: &mut [u32],
     stop: &mut [u32],
 ) -> Outcome
-    ensures { λ r. ⌜ turn (r .answer) (r .state) (now (used .exit)) (now (stop .exit)) ≡ createTurn (asked size granularity flags w arena length) (now (used .entry)) (now (stop .entry)) ⌝ }
+    ensures { λ r. ⌜ turnOf r (now (used .exit)) (now (stop .exit)) ≡ createTurn (asked size granularity flags w arena length) (now (used .entry)) (now (stop .entry)) ⌝ }
 {
     let words = w as usize;
     if !is_grantable(words, arena, length, used.len(), stop.len()) {

@@ -1,13 +1,13 @@
 -- What a query, a release and a shrink of an address come to in a known state, by what the ledger has there. Assumes nothing.
 use Prim.Native.Nat.{ℕ, _-_, _*_, _≤_, _<_}
 use mathlib.Core.List.{List}
-use mathlib.Core.Path.{_≡_, refl, sym, ap, subst, _∙_}
+use mathlib.Core.Path.{_≡_, sym, ap, subst, _∙_}
 use native.Mathlib.Nat.{mul-le-mul-right, mul-lt-mul-of-pos-right}
 use native.Mathlib.Omega.{arith}
 use lib.ListN.{length}
 use Rattle.numbers.specs.Units.{unitsOf, bytesOf}
-use Rattle.numbers.proofs.Split.{by-eq, by-le, not-both}
-use Rattle.block.specs.Marking.{released}
+use Rattle.numbers.proofs.Bools.{not-both}
+use Rattle.numbers.proofs.Split.{by-eq, by-le}
 use Rattle.state.specs.declared.State.{State}
 use Rattle.state.specs.declared.Span.{Span}
 use Rattle.state.specs.declared.Found.the-variants.{At, Nothing}
@@ -18,11 +18,11 @@ use Rattle.state.specs.Table.{blockAt}
 use Rattle.state.specs.Find.{holds, lookup}
 use Rattle.state.proofs.Find.{Least, least-of}
 use Rattle.shape_facts.proofs.Facts.{found-in}
-use Rattle.machine.specs.Turn.{Turn, span, withLive, unitOf}
-use Rattle.machine.specs.Release.{lessUsed, releaseUnits, releaseTurn}
+use Rattle.machine.specs.Turn.{Turn, span}
+use Rattle.machine.specs.Release.{releaseUnits, releaseTurn}
 use Rattle.machine.specs.Shrink.{shrinkTurn}
 use Rattle.machine.specs.Span.{queryTurn}
-use Rattle.shape_kept.proofs.Cases.{settle-cases}
+use Rattle.machine.proofs.Cases.{freed-answer}
 use Rattle.ledger.specs.Ledger.{In}
 use Rattle.ledger.specs.Agrees.{Sound}
 use Rattle.ledger.proofs.Finds.{Finds, nowhere, nothing, entry, finds, stands, unit-is, not-zero, query-at, query-held, query-entry, release-zero, release-at, release-held, release-entry, shrink-zero, shrink-at, shrink-held, shrink-units, units-more, units-same, units-less}
@@ -77,9 +77,7 @@ module _ {s : State} {u t : List ℕ} {l : List Span} (k : Known s u t l) where
 
   free-answer : (a j i e : ℕ) → j < s .count → releaseUnits s u t a j i e .answer ≡ Released (span a ((e - i) * s .granularity))
   free-answer a j i e h =
-      let w = Released (span a (bytesOf (e - i) (unitOf s (blockAt s j)))) in
-      settle-cases (λ (x : Turn). x .answer ≡ w) (withLive (lessUsed s j (released (blockAt s j) i e) (e - i)) (s .live - 1)) _ _ w j (λ q. refl) (λ q r. refl) (λ q r c. refl)
-      ∙ ap (λ (g : ℕ). Released (span a ((e - i) * g))) (unit-is s u t l o len j h)
+      freed-answer s u t a j i e ∙ ap (λ (g : ℕ). Released (span a ((e - i) * g))) (unit-is s u t l o len j h)
 
   pub given-back : (a : ℕ) → GivenBack s u t l a
   given-back a = by-eq a 0 (λ e. zero-address e (zero-vacant a e) (answered (release-zero s u t l o len a e))) (λ ne. go ne (finds s u t l o len a))

@@ -7,12 +7,11 @@ use mathlib.Core.Logic.{_⊎_, inl, inr, ⊎-elim, _↔_}
 use mathlib.Core.Path.{_≡_, refl, sym, ap, ap₂, subst, _∙_}
 use native.Mathlib.Omega.{arith}
 use lib.ListN.{length, getD}
-use lib.Dec.{eqb}
-use Rattle.numbers.specs.Pick.{pick}
-use Rattle.numbers.proofs.Split.{not-both}
+use Rattle.numbers.proofs.Bools.{not-both}
 use Rattle.runs.specs.Window.{FreeAt}
 use Rattle.slots.specs.Slots.{slotOf}
 use Rattle.block.specs.Marking.{marked}
+use Rattle.block.proofs.LiesAs.{lies-refl, lies-trans, marked-lies}
 use Rattle.sizes.specs.declared.Rounded.the-variants.{To}
 use Rattle.sizes.specs.declared.Pool.{Pool}
 use Rattle.sizes.specs.Pools.{poolOf, freshPool}
@@ -22,20 +21,20 @@ use Rattle.state.specs.declared.State.{State}
 use Rattle.state.specs.declared.Span.{Span}
 use Rattle.state.specs.declared.Hit.the-variants.{At}
 use Rattle.state.specs.declared.Refusal.{Refusal}
-use Rattle.state.specs.declared.Refusal.the-variants.{InvalidArgument, TooLarge, NoMapping}
+use Rattle.state.specs.declared.Refusal.the-variants.{NoMapping}
 use Rattle.state.specs.declared.Answer.{Answer}
 use Rattle.state.specs.declared.Answer.the-variants.{Created, Granted, Released, Shrunk, Shown, Reset, Refused}
 use Rattle.state.specs.Table.{blockAt, poolAt}
 use Rattle.shape_facts.proofs.Facts.{unit-g, pool-3}
 use Rattle.shape_facts.proofs.Search.{Left, Place as PlaceIn}
 use Rattle.shape_facts.proofs.Pool.{whole, units-kept}
-use Rattle.machine.specs.Turn.{Turn, span}
-use Rattle.machine.specs.Alloc.{allocMarked, allocMade}
+use Rattle.machine.specs.Turn.{Turn, refuse, span}
+use Rattle.machine.specs.Alloc.{poolFor, unitsFor, searchFor, newSize, allocMarked, allocMade}
 use Rattle.machine.specs.Release.{releaseUnits, releaseTurn}
 use Rattle.machine.specs.Machine.{alloc, release, step}
-use Rattle.ledger.proofs.Lies.{marked-lies}
+use Rattle.machine.proofs.Searched.{search-other}
+use Rattle.machine.proofs.Cases.{Seeks, Places, alloc-cases}
 use Rattle.shape_kept.specs.Sized.{Sized}
-use Rattle.shape_kept.proofs.Cases.{Seeks, Places, poolFor, unitsFor, searchFor, newSize}
 use Rattle.shape_kept.proofs.After.{put-block}
 use Rattle.shape_kept.proofs.Sized.{sized-search}
 use Rattle.shape_kept.proofs.Request.{seeks-some, seeks-ready}
@@ -44,7 +43,6 @@ use Rattle.ledger.specs.First.{FirstFrom}
 use Rattle.ledger.specs.Reached.{Reached, called}
 use Rattle.ledger.proofs.View.{strike-head}
 use Rattle.ledger.proofs.Search.{Combed}
-use Rattle.ledger.proofs.Alloc.{refused, hit, full, made, goes, Ways}
 use Rattle.ledger.proofs.Made.{made-answer, made-lies, made-shaped}
 use Rattle.ledger.proofs.Step.{combed, left}
 use Rattle.ledger.proofs.Reached.{Known, reached-known, step-known}
@@ -52,7 +50,7 @@ use Rattle.demands.specs.Back.{AllStood}
 use Rattle.demands.proofs.Addresses.{release-grants}
 use Rattle.demands.proofs.First.{two-sizes}
 use Rattle.demands.proofs.Again.{found-again}
-use Rattle.demands.proofs.Restored.{lies-refl, lies-trans, marked-back}
+use Rattle.demands.proofs.Restored.{marked-back}
 use Rattle.demands.proofs.Unmade.{Outcome, made-back}
 
 -- ---- the span that an answer grants
@@ -123,8 +121,8 @@ module _ {s : State} {u t : List ℕ} {l : List Span} (k : Known s u t l) (size 
   stood-before : (y : Turn) → AllStood r u t y → AllStood s u t y
   stood-before y f i h =
       let e = f i (omega (arith, lf .count)) in
-      let w : r .w ≡ s .w = ap (λ (c : State). c .w) (cb .only) in
-      let o = lf .alike i in
+      let w : r .w ≡ s .w = ap (λ (c : State). c .w) (search-other s u p n) in
+      let o = lf .alike i .lies in
       record {
         base = e .base ∙ o .base;
         size = e .size ∙ o .size;
@@ -142,7 +140,7 @@ module _ {s : State} {u t : List ℕ} {l : List Span} (k : Known s u t l) (size 
       let h = d .0 in
       let c = subst (FirstFrom s u p n 0) e (cb .first) in
       let same : slotOf (s .w) (blockAt s j .slot) u ≡ slotOf (r .w) (blockAt r j .slot) u =
-      ap₂ (λ (x y : ℕ). slotOf x y u) (sym (ap (λ (x : State). x .w) (cb .only))) (sym (lf .alike j .slot)) in
+      ap₂ (λ (x y : ℕ). slotOf x y u) (sym (ap (λ (x : State). x .w) (search-other s u p n))) (sym (lf .alike j .lies .slot)) in
       let low : j < 64 = omega (arith, h, lf .shaped .head .count-slots, lf .shaped .head .slots-high) in
       let block = lies-trans (lies-refl (put-block r zr j (marked (blockAt r j) i (i + n)) low)) (marked-lies (blockAt r j) i (i + n)) in
       let unit = unit-g r (length u) (length t) (lf .shaped) (blockAt r j .pool) (pool-3 r (length u) (length t) (lf .shaped) j h) in
@@ -160,7 +158,7 @@ module _ {s : State} {u t : List ℕ} {l : List Span} (k : Known s u t l) (size 
   made-ends place slot o turned =
       let m = allocMade r u t p n (newSize r p bytes) place slot in
       let d = seeks-ready s u t size bytes q in
-      let pools : r .poolcount ≡ s .poolcount = ap (λ (c : State). c .poolcount) (cb .only) in
+      let pools : r .poolcount ≡ s .poolcount = ap (λ (c : State). c .poolcount) (search-other s u p n) in
       let p-low : p < r .poolcount = omega (arith, pools, pool-below bytes (s .granularity) (s .poolcount) (d .shaped .head .pools-listed)) in
       let fits = units-kept s r (lf .pools) p p n n bytes refl refl (whole s (length u) (length t) bytes d) in
       let st = cb .ready .stands in
@@ -176,7 +174,7 @@ module _ {s : State} {u t : List ℕ} {l : List Span} (k : Known s u t l) (size 
       let path : released x a ≡ releaseUnits (m .state) (m .used) (m .stop) a (r .count) 0 (0 + n) = ap (λ (y : Turn). released y a) turned ∙ again in
       let done = subst (Outcome r u t l (lf .shaped) zr st ag live p n bytes place slot p-low pos (d .some) (d .most) fits o a) (sym path) back in
       let same-pool : poolAt r p .empty ≡ poolAt s p .empty = ap (λ (ps : List Pool). getD ps p (freshPool 0) .empty) (lf .pools) in
-      let same-rule : r .immediate ≡ s .immediate = ap (λ (c : State). c .immediate) (cb .only) in (
+      let same-rule : r .immediate ≡ s .immediate = ap (λ (c : State). c .immediate) (search-other s u p n) in (
         stood-before (released x a) (done .0),
         ⊎-elim
             (λ c. inl (c .0 ∙ lf .count, inr (⊎-elim (λ e. inl (λ f. e (same-pool ∙ f))) (λ e. inr (sym same-rule ∙ e)) (c .1))))
@@ -215,16 +213,18 @@ module _ {s : State} {u t : List ℕ} {l : List Span} (r : Reached s u t l) (siz
   back-ledger = ap₂ (λ (c d : Answer). enter c (enter d l)) back-granted granted ∙ strike-head (span a z) l a refl
 
   ends : Ends s u t pool first second
-  ends = go (goes s u t size (reached-known r .sound .shape))
+  ends =
+      alloc-cases (λ (x : Turn). first ≡ x → Ends s u t pool first second) s u t size (λ why early cond turned. absurd (not-refused why turned))
+      (λ b q miss short turned. absurd (not-refused NoMapping turned))
+      (λ b j i q e turned. subst (λ (b : ℕ). Ends s u t (poolFor s b) first second) (same b q) (hit-ends (reached-known r) size a z b granted q j i e turned))
+      (λ b place slot q miss o turned. subst (λ (b : ℕ). Ends s u t (poolFor s b) first second) (same b q) (made-ends (reached-known r) size a z b granted q place slot o turned))
+      refl
     where
       same : (b : ℕ) → Seeks s u t size b → b ≡ bytes
       same b q = two-sizes (rounded size (s .granularity)) b bytes (q .is) rounds
 
-      go : Ways s u t size → Ends s u t pool first second
-      go (refused c e turned) = absurd (refused-not (first .answer) (span a z) (pick (eqb c 1) InvalidArgument TooLarge) (ap (λ (y : Turn). y .answer) turned) granted)
-      go (hit b j i q e turned) = subst (λ (b : ℕ). Ends s u t (poolFor s b) first second) (same b q) (hit-ends (reached-known r) size a z b granted q j i e turned)
-      go (full b q e why turned) = absurd (refused-not (first .answer) (span a z) NoMapping (ap (λ (y : Turn). y .answer) turned) granted)
-      go (made b place slot q e o turned) = subst (λ (b : ℕ). Ends s u t (poolFor s b) first second) (same b q) (made-ends (reached-known r) size a z b granted q place slot o turned)
+      not-refused : (why : Refusal) {x : State} → first ≡ refuse why x u t → ⊥
+      not-refused why turned = refused-not (first .answer) (span a z) why (ap (λ (y : Turn). y .answer) turned) granted
 
   -- every earlier block stands, with its words in both maps
   pub back-stood : AllStood s u t second

@@ -7,51 +7,50 @@ use mathlib.Core.Path.{_≡_, refl, sym, ap, ap₂, subst, _∙_}
 use native.Mathlib.Omega.{arith}
 use lib.ListN.{length}
 use Rattle.numbers.specs.Units.{unitsOf}
+use Rattle.numbers.proofs.Bools.{not-both}
 use Rattle.block.specs.declared.Block.{Block}
 use Rattle.sizes.specs.declared.Rounded.{Rounded}
-use Rattle.sizes.specs.declared.Rounded.the-variants.{To, Refused as unroundable}
+use Rattle.sizes.specs.declared.Rounded.the-variants.{To}
 use Rattle.sizes.specs.Pools.{poolOf}
 use Rattle.sizes.specs.Sizes.{rounded, idealSize}
 use Rattle.sizes.proofs.Pools.{pool-below}
+use Rattle.sizes.proofs.Sizes.{rounded-is}
 use Rattle.state.specs.declared.State.{State}
 use Rattle.state.specs.declared.Span.{Span}
 use Rattle.state.specs.declared.Found.{Found}
 use Rattle.state.specs.declared.Found.the-variants.{At as slotAt, Nothing}
 use Rattle.state.specs.declared.Place.{Place}
-use Rattle.state.specs.declared.Place.the-variants.{Address, Nowhere as noPlace}
+use Rattle.state.specs.declared.Place.the-variants.{Base, Nowhere as noPlace}
 use Rattle.state.specs.declared.Hit.the-variants.{At, Nowhere}
-use Rattle.state.specs.declared.Refusal.the-variants.{NoMapping}
+use Rattle.state.specs.declared.Refusal.{Refusal}
+use Rattle.state.specs.declared.Refusal.the-variants.{InvalidArgument, TooLarge, InvalidState, NoMapping, BadShape, Damaged}
 use Rattle.state.specs.declared.Answer.{Answer}
 use Rattle.state.specs.declared.Answer.the-variants.{Granted, Refused}
 use Rattle.state.specs.Table.{blockAt, poolAt}
-use Rattle.state.specs.Find.{lowestSlot, lowestPlace, newestSize}
-use Rattle.state.specs.Change.{withTable}
-use Rattle.shape_facts.proofs.Keep.{Same}
+use Rattle.state.specs.Shape.{goodShape}
+use Rattle.state.specs.Find.{lowestSlot, lowestPlace}
 use Rattle.shape_facts.proofs.Facts.{unit-g, pool-3}
 use Rattle.shape_facts.proofs.Search.{Left, Place as PlaceIn}
 use Rattle.shape_facts.proofs.Pool.{whole, units-kept}
-use Rattle.machine.specs.Turn.{Turn, span, unitOf}
-use Rattle.machine.specs.Alloc.{allocMarked, allocMade}
+use Rattle.machine.specs.Turn.{Turn, number, span, unitOf}
+use Rattle.machine.specs.Alloc.{poolFor, unitsFor, searchFor, newSize, allocMarked, allocMade}
 use Rattle.machine.specs.Machine.{alloc, step}
-use Rattle.shape_kept.proofs.Cases.{Seeks, Places, poolFor, unitsFor, searchFor, newSize}
+use Rattle.machine.specs.When.{When}
+use Rattle.machine.proofs.Searched.{search-other, search-slot, search-place, search-newest}
+use Rattle.machine.proofs.Cases.{Seeks, Places, Short, alloc-cases}
 use Rattle.shape_kept.proofs.Sized.{sized-search}
 use Rattle.shape_kept.proofs.Request.{seeks-some, seeks-pool, seeks-ready}
 use Rattle.ledger.specs.First.{First, FirstFrom}
 use Rattle.ledger.specs.Reached.{Reached}
 use Rattle.ledger.proofs.Search.{Combed}
 use Rattle.ledger.proofs.Finds.{shaped}
-use Rattle.ledger.proofs.Alloc.{Short, refused, hit, full, made, goes, Ways}
 use Rattle.ledger.proofs.Made.{made-answer, made-lies}
 use Rattle.ledger.proofs.Step.{combed, left}
 use Rattle.ledger.proofs.Reached.{Known, reached-known}
-use Rattle.demands.specs.Alloc.{Taken, sizeFor, wordsFor, Made, CannotMake, Goes}
-use Rattle.shape_facts.proofs.Alike.{slot-alike, place-alike, newest-alike}
+use Rattle.demands.specs.Alloc.{Taken, wordsFor, Made, CannotMake, Goes}
 
 pub two-sizes : (x : Rounded) (a b : ℕ) → x ≡ To a → x ≡ To b → a ≡ b
 two-sizes x a b p q = cc
-
-size-refused : (x : Rounded) (a k : ℕ) → x ≡ To a → x ≡ unroundable k → ⊥
-size-refused x a k p q = let z : _≡_ {A = ℕ} 0 1 = cc in omega arith
 
 module _ {s : State} {u t : List ℕ} {l : List Span} (k : Known s u t l) (size bytes : ℕ) (q : Seeks s u t size bytes) where
   abbrev p : ℕ
@@ -63,9 +62,6 @@ module _ {s : State} {u t : List ℕ} {l : List Span} (k : Known s u t l) (size 
   abbrev r : State
   r = searchFor s u bytes .state
 
-  abbrev x : Turn
-  x = step s u t (alloc size)
-
   abbrev cb : Combed u t l p n (seeks-some s u t size bytes q) s 0 (searchFor s u bytes)
   cb = combed s u t l (k .sound) (k .sized) size bytes q
 
@@ -73,20 +69,17 @@ module _ {s : State} {u t : List ℕ} {l : List Span} (k : Known s u t l) (size 
   lf = left s u t l (k .sound) (k .sized) size bytes q
 
   g-same : r .granularity ≡ s .granularity
-  g-same = ap (λ (c : State). c .granularity) (cb .only)
+  g-same = ap (λ (c : State). c .granularity) (search-other s u p n)
 
   -- the state that the search left finds slot, place and size as before
-  alike : (i : ℕ) → Same (blockAt (withTable s (s .count) (r .blocks) (s .order) (s .pools)) i) (blockAt s i)
-  alike i = lf .alike i
-
-  size-same : newSize r p bytes ≡ sizeFor s p bytes
-  size-same = ap (λ (m : ℕ). idealSize m bytes) (ap (λ (c : State). newestSize c p) (cb .only) ∙ newest-alike s (r .blocks) alike p)
+  size-same : newSize r p bytes ≡ newSize s p bytes
+  size-same = ap (λ (m : ℕ). idealSize m bytes) (search-newest s u p n p)
 
   slot-same : lowestSlot r ≡ lowestSlot s
-  slot-same = ap lowestSlot (cb .only) ∙ slot-alike s (r .blocks) alike
+  slot-same = search-slot s u p n
 
-  place-same : lowestPlace r (newSize r p bytes) ≡ lowestPlace s (sizeFor s p bytes)
-  place-same = ap (lowestPlace r) size-same ∙ ap (λ (c : State). lowestPlace c (sizeFor s p bytes)) (cb .only) ∙ place-alike s (r .blocks) alike (sizeFor s p bytes)
+  place-same : lowestPlace r (newSize r p bytes) ≡ lowestPlace s (newSize s p bytes)
+  place-same = ap (lowestPlace r) size-same ∙ search-place s u p n (newSize s p bytes)
 
   unit-same : poolAt r p .granularity ≡ s .granularity
   unit-same = unit-g r (length u) (length t) (lf .shaped) p (seeks-pool s u t size bytes q) ∙ g-same
@@ -95,24 +88,24 @@ module _ {s : State} {u t : List ℕ} {l : List Span} (k : Known s u t l) (size 
   words-same = ap₂ (λ (a b : ℕ). unitsOf (unitsOf a b) 32) size-same unit-same
 
   w-same : r .w ≡ s .w
-  w-same = ap (λ (c : State). c .w) (cb .only)
+  w-same = ap (λ (c : State). c .w) (search-other s u p n)
 
-  taken : (j i : ℕ) → searchFor s u bytes .hit ≡ At j i → x ≡ allocMarked r u t j i n → Taken s u p n x
-  taken j i e turned = record {
+  taken : (j i : ℕ) → searchFor s u bytes .hit ≡ At j i → Taken s u p n (allocMarked r u t j i n)
+  taken j i e = record {
     block = j;
     unit = i;
     first = subst (FirstFrom s u p n 0) e (cb .first);
     answer =
         let h = subst (PlaceIn u (length t) p n (seeks-some s u t size bytes q) r) e (lf .place) .0 in
         let unit : unitOf r (blockAt r j) ≡ s .granularity = unit-g r (length u) (length t) (lf .shaped) (blockAt r j .pool) (pool-3 r (length u) (length t) (lf .shaped) j h) ∙ g-same in
-        ap (λ (y : Turn). y .answer) turned ∙ ap₂ (λ (b g : ℕ). Granted (span (b + i * g) (n * g))) (lf .alike j .base) unit;
-    count = ap (λ (y : Turn). y .state .count) turned ∙ lf .count;
+        ap₂ (λ (b g : ℕ). Granted (span (b + i * g) (n * g))) (lf .alike j .lies .base) unit;
+    count = lf .count;
   }
 
-  make : (at slot : ℕ) → Places r p bytes at slot → x ≡ allocMade r u t p n (newSize r p bytes) at slot → Made s p n bytes x
-  make at slot m turned =
+  make : (at slot : ℕ) → Places r p bytes at slot → Made s p n bytes (allocMade r u t p n (newSize r p bytes) at slot)
+  make at slot m =
       let a = seeks-ready s u t size bytes q in
-      let pools : r .poolcount ≡ s .poolcount = ap (λ (c : State). c .poolcount) (cb .only) in
+      let pools : r .poolcount ≡ s .poolcount = ap (λ (c : State). c .poolcount) (search-other s u p n) in
       let p-low : p < r .poolcount = omega (arith, pools, pool-below bytes (s .granularity) (s .poolcount) (a .shaped .head .pools-listed)) in
       let fits = units-kept s r (lf .pools) p p n n bytes refl refl (whole s (length u) (length t) bytes a) in
       let some = seeks-some s u t size bytes q in
@@ -121,17 +114,16 @@ module _ {s : State} {u t : List ℕ} {l : List Span} (k : Known s u t l) (size 
       let ag = cb .ready .agrees in
       let live = lf .live ∙ k .sound .live in
       let lies = made-lies r u t l (lf .shaped) z st ag live p n bytes at slot p-low some (a .some) (a .most) fits m in
-      let last : blockAt (x .state) (s .count) ≡ blockAt (allocMade r u t p n (newSize r p bytes) at slot .state) (r .count) =
-      ap₂ (λ (y : Turn) (c : ℕ). blockAt (y .state) c) turned (sym (lf .count)) in
+      let last = ap (blockAt (allocMade r u t p n (newSize r p bytes) at slot .state)) (sym (lf .count)) in
       record {
         place = at;
         slot = slot;
         lowest-place = sym place-same ∙ sym (m .place);
         lowest-slot = sym slot-same ∙ sym (m .free);
         words = omega (arith, words-same, w-same, m .words);
-        answer = ap (λ (y : Turn). y .answer) turned ∙ made-answer r u t l (lf .shaped) z st ag live p n bytes at slot p-low some (a .some) (a .most) fits m
+        answer = made-answer r u t l (lf .shaped) z st ag live p n bytes at slot p-low some (a .some) (a .most) fits m
             ∙ ap (λ (g : ℕ). Granted (span at (n * g))) g-same;
-        count = ap (λ (y : Turn). y .state .count) turned ∙ ap (λ (c : ℕ). c + 1) (lf .count);
+        count = ap (λ (c : ℕ). c + 1) (lf .count);
         base-is = ap (λ (b : Block). b .base) last ∙ lies .base;
         size-is = ap (λ (b : Block). b .size) last ∙ lies .size ∙ size-same;
         pool-is = ap (λ (b : Block). b .pool) last ∙ lies .pool;
@@ -168,19 +160,23 @@ module _ {s : State} {u t : List ℕ} {l : List Span} (r : Reached s u t l) (siz
 
   -- where an allocation goes
   pub alloc-goes : Goes s u pool units bytes after
-  alloc-goes = subst (λ (n : ℕ). Goes s u pool n bytes after) units-same (go (goes s u t size (known .sound .shape)))
+  alloc-goes =
+      subst (λ (n : ℕ). Goes s u pool n bytes after) units-same
+      (alloc-cases (λ (x : Turn). Goes s u pool (unitsFor s bytes) bytes x) s u t size (λ why early cond. absurd (accepted why early cond))
+      (λ b q miss short. as-asked b q _ (inr (none known size b q miss, inr (refl, cannot known size b q short))))
+      (λ b j i q e. as-asked b q _ (inl (taken known size b q j i e)))
+      (λ b at slot q miss m. as-asked b q _ (inr (none known size b q miss, inl (make known size b q at slot m)))))
     where
-      same : (b : ℕ) → Seeks s u t size b → b ≡ bytes
-      same b q = two-sizes (rounded size (s .granularity)) b bytes (q .is) rounds
+      as-asked : (b : ℕ) → Seeks s u t size b → (x : Turn) → Goes s u (poolFor s b) (unitsFor s b) b x → Goes s u pool (unitsFor s bytes) bytes x
+      as-asked b q x = subst (λ (b : ℕ). Goes s u (poolFor s b) (unitsFor s b) b x) (two-sizes (rounded size (s .granularity)) b bytes (q .is) rounds)
 
-      go : Ways s u t size → Goes s u pool (unitsFor s bytes) bytes after
-      go (refused c e q) = absurd (size-refused (rounded size (s .granularity)) bytes c rounds e)
-      go (hit b j i q e turned) = subst (λ (b : ℕ). Goes s u (poolFor s b) (unitsFor s b) b after) (same b q) (inl (taken known size b q j i e turned))
-      go (full b q e why turned) =
-          subst (λ (b : ℕ). Goes s u (poolFor s b) (unitsFor s b) b after) (same b q)
-          (inr (none known size b q e, inr (ap (λ (y : Turn). y .answer) turned, cannot known size b q why)))
-      go (made b at slot q e m turned) =
-          subst (λ (b : ℕ). Goes s u (poolFor s b) (unitsFor s b) b after) (same b q) (inr (none known size b q e, inl (make known size b q at slot m turned)))
+      accepted : (why : Refusal) → (number why ≡ 4 → ⊥) → When s u t why (alloc size) → ⊥
+      accepted InvalidArgument early cond = let a = rounded-is size (s .granularity) bytes rounds in omega (arith, cond .1)
+      accepted TooLarge early cond = let a = rounded-is size (s .granularity) bytes rounds in omega (arith, cond .1)
+      accepted BadShape early bad = not-both (goodShape s (length u) (length t)) (known .sound .shape) bad
+      accepted NoMapping early cond = early refl
+      accepted InvalidState early cond = cond
+      accepted Damaged early cond = cond
 
   -- ---- exactly
   some-units : 0 < units
@@ -194,7 +190,7 @@ module _ {s : State} {u t : List ℕ} {l : List Span} (r : Reached s u t l) (siz
   granted-not : (c : Answer) (y : Span) → c ≡ Granted y → c ≡ Refused NoMapping → ⊥
   granted-not c y p q = let z : _≡_ {A = ℕ} 0 1 = cc in omega arith
 
-  placed-not : (c : Place) (a : ℕ) → c ≡ Address a → c ≡ noPlace → ⊥
+  placed-not : (c : Place) (a : ℕ) → c ≡ Base a → c ≡ noPlace → ⊥
   placed-not c a p q = let z : _≡_ {A = ℕ} 0 1 = cc in omega arith
 
   slot-not : (c : Found) (a : ℕ) → c ≡ slotAt a → c ≡ Nothing → ⊥

@@ -4,10 +4,10 @@ use mathlib.Core.List.{List}
 use mathlib.Core.Path.{_≡_, refl, sym, ap, subst, _∙_}
 use lib.Dec.{eqb}
 use borrow.Author.Tests.{eqb-true}
+use Rattle.numbers.proofs.Bools.{picked}
 use Rattle.block.specs.declared.Block.{Block}
 use Rattle.block.specs.Marking.{marked, released, emptied, widened}
 use Rattle.sizes.specs.declared.Pool.{Pool}
-use Rattle.sizes.proofs.Cases.{picked}
 use Rattle.state.specs.declared.State.{State}
 use Rattle.state.specs.Table.{blockAt, poolAt, one}
 use Rattle.state.specs.Shape.{isEmpty}

@@ -3,25 +3,25 @@ use Prim.Native.Nat.{ℕ}
 use mathlib.Core.List.{List}
 use mathlib.Core.Bool.{Bool, true, false}
 use mathlib.Core.Path.{_≡_, sym, ap, subst}
-use lib.Dec.{eqb}
 use lib.ListN.{length}
-use Rattle.numbers.specs.Pick.{pick}
+use Rattle.numbers.proofs.Bools.{not-both}
 use Rattle.numbers.proofs.Split.{by-eq}
 use Rattle.state.specs.declared.State.{State}
 use Rattle.state.specs.declared.Span.{Span}
+use Rattle.state.specs.declared.Refusal.{Refusal}
 use Rattle.state.specs.declared.Refusal.the-variants.{InvalidArgument, TooLarge, InvalidState, NoMapping, BadShape, Damaged}
 use Rattle.state.specs.declared.Answer.{Answer}
 use Rattle.state.specs.declared.Answer.the-variants.{Created, Granted, Released, Shrunk, Shown, Reset, Refused}
 use Rattle.state.specs.Shape.{goodShape}
-use Rattle.machine.specs.Turn.{Turn}
+use Rattle.machine.specs.Turn.{Turn, number}
 use Rattle.machine.specs.Alloc.{allocTurn}
 use Rattle.machine.specs.Reset.{resetTurn}
 use Rattle.machine.specs.Release.{releaseTurn}
 use Rattle.machine.specs.Machine.{Call, create, alloc, release, shrink, query, softReset, hardReset, step}
-use Rattle.shape_kept.proofs.Cases.{create-cases}
+use Rattle.machine.specs.When.{When}
+use Rattle.machine.proofs.Cases.{create-cases, reset-cases, alloc-cases}
 use Rattle.ledger.specs.Reached.{Reached}
-use Rattle.ledger.proofs.Finds.{not-bad, shrink-release}
-use Rattle.ledger.proofs.Alloc.{Ways, refused, hit, full, made, goes}
+use Rattle.ledger.proofs.Finds.{shrink-release}
 use Rattle.ledger.proofs.Reached.{Known, reached-known}
 use Rattle.demands.proofs.Answers.{Queried, unknown, known, queried, GivenBack, zero-address, no-block, no-span, struck, given-back, CutDown, too-many, shortened, cut-down}
 
@@ -71,22 +71,20 @@ module _ {s : State} {u t : List ℕ} {l : List Span} (k : Known s u t l) where
       go (too-many z m h e) = is e tt
       go (shortened z m h e) = is e tt
 
-  size-sane : (c : Bool) → Sane (Refused (pick c InvalidArgument TooLarge))
-  size-sane true = tt
-  size-sane false = tt
-
   alloc-sane : (size : ℕ) → Sane (allocTurn s u t size .answer)
-  alloc-sane size = go (goes s u t size (k .sound .shape))
+  alloc-sane size = alloc-cases (λ (x : Turn). Sane (x .answer)) s u t size early-sane (λ bytes q miss short. tt) (λ bytes j i q e. tt) (λ bytes at slot q miss p. tt)
     where
-      go : Ways s u t size → Sane (allocTurn s u t size .answer)
-      go (refused n e q) = turned q (size-sane (eqb n 1))
-      go (hit bytes j i m e q) = turned q tt
-      go (full bytes m e why q) = turned q tt
-      go (made bytes at slot m e p q) = turned q tt
+      early-sane : (why : Refusal) → (number why ≡ 4 → ⊥) → When s u t why (alloc size) → Sane (Refused why)
+      early-sane BadShape early bad = not-both (goodShape s (length u) (length t)) (k .sound .shape) bad
+      early-sane Damaged early cond = cond
+      early-sane InvalidArgument early cond = tt
+      early-sane TooLarge early cond = tt
+      early-sane InvalidState early cond = tt
+      early-sane NoMapping early cond = tt
 
   reset-sane : (hard : Bool) → Sane (resetTurn s u t hard .answer)
-  unfolding resetTurn
-  reset-sane hard = turned (not-bad (goodShape s (length u) (length t)) (k .sound .shape) _ _) tt
+  reset-sane hard =
+      reset-cases (λ (x : Turn). Sane (x .answer)) s u t hard (λ bad. not-both (goodShape s (length u) (length t)) (k .sound .shape) bad) (λ good. tt) (λ good off. tt)
 
   known-sane : (c : Call) → Sane (step s u t c .answer)
   known-sane (create a) = create-cases (λ (x : Turn). Sane (x .answer)) s u t a (λ e. tt) (λ e. tt)

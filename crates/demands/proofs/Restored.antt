@@ -9,7 +9,8 @@ use lib.ListN.{length}
 use borrow.Author.Tests.{eq-eqb}
 use Rattle.numbers.specs.Pick.{pick}
 use Rattle.numbers.specs.Units.{bytesOf}
-use Rattle.numbers.proofs.Split.{by-eq, not-both}
+use Rattle.numbers.proofs.Bools.{not-both}
+use Rattle.numbers.proofs.Split.{by-eq}
 use Rattle.bits.specs.Bits.{bit, filled, Words}
 use Rattle.bits.proofs.Filled.{length-filled}
 use Rattle.runs.specs.Window.{FreeAt}
@@ -17,6 +18,7 @@ use Rattle.slots.specs.Slots.{slotOf, putSlot, fillSlot}
 use Rattle.slots.proofs.Laws.{slot-own, put-put-slot, put-slot-same, words-slot}
 use Rattle.block.specs.declared.Block.{Block}
 use Rattle.block.specs.Marking.{marked, released}
+use Rattle.block.proofs.LiesAs.{LiesAs, lies-refl, lies-trans, marked-lies, released-lies}
 use Rattle.sizes.specs.declared.Pool.{Pool}
 use Rattle.state.specs.declared.State.{State}
 use Rattle.state.specs.declared.Span.{Span}
@@ -30,10 +32,9 @@ use Rattle.shape_facts.proofs.Facts.{pool-3, count-64}
 use Rattle.machine.specs.Turn.{Turn, turn, span, unitOf}
 use Rattle.machine.specs.Alloc.{allocMarked}
 use Rattle.machine.specs.Release.{releaseUnits}
+use Rattle.machine.proofs.Cases.{settle-cases}
 use Rattle.ledger.proofs.Back.{used-back, stop-back}
-use Rattle.ledger.proofs.Lies.{Lies, marked-lies, released-lies}
 use Rattle.shape_kept.specs.Sized.{Sized}
-use Rattle.shape_kept.proofs.Cases.{settle-cases}
 use Rattle.shape_kept.proofs.After.{put-block, put-block-other, less-block, less-block-other}
 use Rattle.shape_kept.proofs.Sized.{sized-block, sized-pool, sized-live}
 use Rattle.ledger.specs.Agrees.{viewOf, at, Agrees}
@@ -41,24 +42,6 @@ use Rattle.ledger.proofs.Table.{Stands, slot-room}
 use Rattle.ledger.proofs.Calls.{part-u, part-t}
 use Rattle.demands.specs.Back.{AllStood}
 use Rattle.demands.proofs.Freed.{marked-used, released-used, marked-empty, less, freed-empty}
-
-pub lies-refl : {c b : Block} → c ≡ b → Lies c b
-lies-refl e = record {
-  base = ap (λ (x : Block). x .base) e;
-  size = ap (λ (x : Block). x .size) e;
-  pool = ap (λ (x : Block). x .pool) e;
-  slot = ap (λ (x : Block). x .slot) e;
-  area = ap (λ (x : Block). x .area) e;
-}
-
-pub lies-trans : {a b c : Block} → Lies a b → Lies b c → Lies a c
-lies-trans p q = record {
-  base = p .base ∙ q .base;
-  size = p .size ∙ q .size;
-  pool = p .pool ∙ q .pool;
-  slot = p .slot ∙ q .slot;
-  area = p .area ∙ q .area;
-}
 
 -- whatever is filled into a slot, and undone there
 undone : (w k : ℕ) (ws : List ℕ) (i n v : ℕ) → (k + 1) * w ≤ length ws → (x : List ℕ) → length x ≡ w → filled x i n v ≡ slotOf w k ws
@@ -106,7 +89,7 @@ module _ (r : State) (u t : List ℕ) (l : List Span) (f : Shaped r (length u) (
   lt : length pt ≡ r .w
   lt = part-t (r .granularity) (r .w) (r .slots) (r .count) (r .blocks) u t st l ag j h
 
-  lies-1 : Lies b1 b
+  lies-1 : LiesAs b1 b
   lies-1 = lies-trans (lies-refl (put-block r z j (marked b i (i + n)) low)) (marked-lies b i (i + n))
 
   -- ---- the maps
@@ -137,10 +120,10 @@ module _ (r : State) (u t : List ℕ) (l : List Span) (f : Shaped r (length u) (
   here : blockAt after j ≡ c
   here = less-block (x .state) marked-sized j c (i + n - i) low
 
-  lies-2 : (q : ℕ) → Lies (blockAt after q) (blockAt r q)
+  lies-2 : (q : ℕ) → LiesAs (blockAt after q) (blockAt r q)
   lies-2 q =
       by-eq q j
-      (λ e. subst (λ (q : ℕ). Lies (blockAt after q) (blockAt r q)) (sym e) (lies-trans (lies-refl here) (lies-trans (released-lies b1 i (i + n)) lies-1)))
+      (λ e. subst (λ (q : ℕ). LiesAs (blockAt after q) (blockAt r q)) (sym e) (lies-trans (lies-refl here) (lies-trans (released-lies b1 i (i + n)) lies-1)))
       (λ ne. lies-refl (less-block-other (x .state) marked-sized j c (i + n - i) low q ne ∙ put-block-other r z j (marked b i (i + n)) low q ne))
 
   used-same : blockAt after j .used ≡ b .used

@@ -11,12 +11,14 @@ use lib.ListN.{length}
 use borrow.Author.Tests.{eqb-false, lt-ltb, not-true}
 use Rattle.numbers.specs.Pick.{pick}
 use Rattle.numbers.specs.Units.{unitsOf, bytesOf}
+use Rattle.numbers.proofs.Bools.{or-cases}
 use Rattle.bits.specs.Bits.{filled}
 use Rattle.bits.proofs.Filled.{length-filled}
 use Rattle.slots.specs.Slots.{slotOf, fillSlot}
 use Rattle.slots.proofs.Laws.{length-slot, slot-other}
 use Rattle.block.specs.declared.Block.{Block}
 use Rattle.block.specs.Marking.{released, fresh}
+use Rattle.block.proofs.LiesAs.{LiesAs, lies-refl, released-lies}
 use Rattle.sizes.specs.declared.Pool.{Pool}
 use Rattle.state.specs.declared.State.{State}
 use Rattle.state.specs.declared.Span.{Span}
@@ -26,13 +28,11 @@ use Rattle.state.specs.Table.{blockAt, poolAt, one}
 use Rattle.state.specs.Shape.{isEmpty}
 use Rattle.state.specs.Change.{inserted, removed}
 use Rattle.shape.specs.Shaped.{Shaped}
-use Rattle.shape.proofs.Bools.{or-cases}
 use Rattle.machine.specs.Turn.{Turn, turn, span, unitOf, clearSlot}
-use Rattle.machine.specs.Alloc.{allocMade}
+use Rattle.machine.specs.Alloc.{newSize, allocMade}
 use Rattle.machine.specs.Release.{releaseUnits}
-use Rattle.ledger.proofs.Lies.{Lies, released-lies}
+use Rattle.machine.proofs.Cases.{Places, settle-cases}
 use Rattle.shape_kept.specs.Sized.{Sized}
-use Rattle.shape_kept.proofs.Cases.{Places, newSize, settle-cases}
 use Rattle.shape_kept.proofs.After.{inserted-pool, less-block, less-block-other, removed-block}
 use Rattle.shape_kept.proofs.Sized.{sized-block, sized-pool, sized-live, sized-less, sized-inserted}
 use Rattle.shape_kept.proofs.Words.{make-long, length-fill-slot}
@@ -43,7 +43,6 @@ use Rattle.ledger.proofs.Cleared.{clear-other}
 use Rattle.ledger.proofs.Made.{made-new, made-old, made-lies, made-slot-apart, made-used, made-stop, ready, last, slot-low}
 use Rattle.demands.specs.Back.{AllStood}
 use Rattle.demands.proofs.Freed.{marked-used, released-used, marked-empty, less, freed-empty}
-use Rattle.demands.proofs.Restored.{lies-refl}
 
 -- the words of another slot, after one is filled
 filled-away : (w slots k : ℕ) (ws : List ℕ) (i n v : ℕ) → k < slots → slots * w ≤ length ws → Elsewhere w slots k ws (fillSlot w k ws i n v)
@@ -83,7 +82,7 @@ module _ (r : State) (u t : List ℕ) (l : List Span) (f : Shaped r (length u) (
   made-sized : Sized (x .state)
   made-sized = sized-live _ (sized-pool _ (sized-block with with-sized (r .count) _) _ _) _
 
-  lies : Lies b1 new
+  lies : LiesAs b1 new
   lies = made-lies r u t l f z st ag live p n bytes place slot p-low some asked most fits k
 
   s-low : slot < r .slots
@@ -122,7 +121,7 @@ module _ (r : State) (u t : List ℕ) (l : List Span) (f : Shaped r (length u) (
         marked-used new 0 n,
       )
 
-  lies-c : Lies c b1
+  lies-c : LiesAs c b1
   lies-c = released-lies b1 0 (0 + n)
 
   slot-here : blockAt after (r .count) .slot ≡ slot

@@ -4,6 +4,7 @@ use mathlib.Core.Bool.{true}
 use mathlib.Core.List.{List, [], _∷_}
 use mathlib.Core.Logic.{_⊎_}
 use mathlib.Core.Path.{_≡_}
+use Rattle.numbers.specs.Names.{Address}
 use Rattle.state.specs.declared.State.{State}
 use Rattle.state.specs.declared.Span.{Span}
 use Rattle.state.specs.Table.{blockAt}
@@ -23,10 +24,10 @@ pub record InsideBlock (s : State) (a size j : ℕ) : Type 0 where
   pub high : a + size ≤ blockAt s j .base + blockAt s j .size
   pub one : (k : ℕ) → k < s .count → holds (blockAt s k) a ≡ true → k ≡ j
 
--- a standing block holds the address
-abbrev pub HasBlock : State → ℕ → Type 0
+-- a block holds the address
+abbrev pub HasBlock : State → Address → Type 0
 HasBlock s a = (j : ℕ) × (j < s .count) × (holds (blockAt s j) a ≡ true)
 
 -- the ledger has no entry at a
-abbrev pub Vacant : List Span → ℕ → Type 0
+abbrev pub Vacant : List Span → Address → Type 0
 Vacant l a = (size : ℕ) → In a size l → ⊥

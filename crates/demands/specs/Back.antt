@@ -1,13 +1,14 @@
--- An allocation released at once: what stands afterwards. Assumes nothing.
+-- What an allocation that is released at once leaves. Assumes nothing.
 use Prim.Native.Nat.{ℕ, _<_}
 use mathlib.Core.List.{List}
 use mathlib.Core.Path.{_≡_}
+use Rattle.numbers.specs.Names.{Map}
 use Rattle.slots.specs.Slots.{slotOf}
 use Rattle.state.specs.declared.State.{State}
 use Rattle.state.specs.Table.{blockAt}
 use Rattle.machine.specs.Turn.{Turn}
 
--- block i stands in y as it stood in s: its base, size, slot and pool, and its words in both maps
+-- block i is in y as it was in s: its base, size, slot and pool, and its words in both maps
 pub record Stood (s : State) (u t : List ℕ) (y : Turn) (i : ℕ) : Type 0 where
   pub base : blockAt (y .state) i .base ≡ blockAt s i .base
   pub size : blockAt (y .state) i .size ≡ blockAt s i .size
@@ -16,6 +17,6 @@ pub record Stood (s : State) (u t : List ℕ) (y : Turn) (i : ℕ) : Type 0 wher
   pub used : slotOf (y .state .w) (blockAt (y .state) i .slot) (y .used) ≡ slotOf (s .w) (blockAt s i .slot) u
   pub stop : slotOf (y .state .w) (blockAt (y .state) i .slot) (y .stop) ≡ slotOf (s .w) (blockAt s i .slot) t
 
--- every block that stood before the allocation
-abbrev pub AllStood : State → List ℕ → List ℕ → Turn → Type 0
+-- so is every block of s
+abbrev pub AllStood : State → Map → Map → Turn → Type 0
 AllStood s u t y = (i : ℕ) → i < s .count → Stood s u t y i

@@ -1,9 +1,10 @@
 -- The bytes of a ledger. Assumes nothing.
-use Prim.Native.Nat.{ℕ, _+_}
+use Prim.Native.Nat.{_+_}
 use mathlib.Core.List.{List, [], _∷_}
+use Rattle.numbers.specs.Names.{Bytes}
 use Rattle.state.specs.declared.Span.{Span}
 
--- of all its spans
-unfoldable pub bytesIn : List Span → ℕ
+-- the sum of its spans' sizes
+unfoldable pub bytesIn : List Span → Bytes
 bytesIn [] = 0
 bytesIn (x ∷ l) = x .size + bytesIn l

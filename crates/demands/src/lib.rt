@@ -1,1 +1,2 @@
-// No code: what the customer asks of every state that calls reach, proved (proofs/); what a reader must believe for it is in specs/ and in the crate ledger.
+// No code: proves what the customer asks of every state that calls reach (proofs/). What a reader must believe for it is in specs/ and in
+// the crate ledger.

@@ -12,7 +12,7 @@ use Rattle.block.specs.Marking.{fresh, marked}
 use Rattle.sizes.specs.Pools.{poolOf}
 use Rattle.sizes.specs.Sizes.{rounded, idealSize}
 
--- what a figure is of; requests are as they come, not rounded
+-- what a figure tells; requests are not rounded yet
 pub data Figure : Type 0 where
   -- the size that a request is rounded to, or its refusal
   rounding : ℕ → Figure
@@ -20,9 +20,9 @@ pub data Figure : Type 0 where
   choosing : ℕ → Figure
   -- the first request of a pool: its span, and the block made for it
   first : ℕ → Figure
-  -- two requests, the second of which has a block made too: its span and that block
+  -- two requests, where a block is made for the second too: its span and that block
   second : ℕ → ℕ → Figure
-  -- the first request of a pool: its block's area and used count, window start and end, and largest run, once it is marked
+  -- the first request of a pool: its block's area and used count, window start and end, and largest run, after marking
   marking : ℕ → Figure
 
 -- a refusal's number, or 0 and the rounded size

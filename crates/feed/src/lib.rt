@@ -1,12 +1,12 @@
-// A trace from a file or from standard input, through the trace library, a buffer at a time. What the programs over it share.
+// Feeds a trace from a file or from standard input to the trace library, one buffer at a time. The programs that play traces share this.
 use state::State;
 use trace::Played;
 ghost use mathlib.Core.Path.{_≡_};
 ghost use Prim.Native.Nat.{_≤_, _-_};
 ghost use lib.ListN.{length};
 
-// Where a trace stands: the state, the bytes taken so far, those that wait at the front of the buffer, those that the last turn wrote, whether that was the
-// last turn, and whether it was because the trace can't be read.
+// Where a trace stands: the state, how many bytes were played (`offset`), how many wait at the front of the buffer, how many the last turn
+// wrote, whether that turn was the last one (`done`), and whether it was because a read failed.
 pub struct Feed {
     pub state: State,
     pub offset: u64,
@@ -29,15 +29,15 @@ pub fn start() -> Feed
     }
 }
 
-// As many words of each map as document 01's program holds.
+// Makes a map of as many words as document 01's program has.
 pub fn map_words() -> [u32; 8192]
     ensures { λ r. ⌜ 8192 ≡ length r ⌝ }
 {
     [0; 8192]
 }
 
-// The file that the program's argument names, or standard input where there is none. A file that can't be opened gets a line on standard error, and the answer
-// is negative.
+// Opens the file that the program's argument names, or takes standard input if there is no argument. If the file can't be opened, it
+// writes a line to standard error and returns a negative number.
 pub fn open() -> i32 {
     if os::arg_count() < 2 {
         return libc::STDIN_FILENO;
@@ -55,7 +55,7 @@ pub fn open() -> i32 {
     file
 }
 
-// The bytes of `buffer` from `from` up to `to` move to its front.
+// Moves the bytes of `buffer` from `from` up to `to` to its front.
 fn keep(buffer: &mut [u8], from: usize, to: usize)
     requires { ⌜ (from ≤ to) × (to ≤ length (now buffer)) ⌝ }
 {
@@ -66,13 +66,13 @@ fn keep(buffer: &mut [u8], from: usize, to: usize)
     }
 }
 
-// What one read brought: none where the input ended, or where the read failed.
+// The result of one read: how many bytes came, and whether it failed. None come at the input's end.
 struct Got {
     more: usize,
     failed: bool,
 }
 
-// One read behind the bytes that wait. A failed one gets a line on standard error.
+// Reads once, into the buffer after the bytes that wait. If the read fails, it writes a line to standard error.
 fn fill(file: i32, buffer: &mut [u8], waiting: usize) -> Got
     requires { ⌜ waiting ≤ length (now buffer) ⌝ }
     ensures { λ r. ⌜ r .more ≤ length (now (buffer .entry)) - waiting ⌝ }
@@ -93,7 +93,7 @@ fn fill(file: i32, buffer: &mut [u8], waiting: usize) -> Got
     }
 }
 
-// The last line.
+// Writes the trace's last line, and ends the trace.
 fn last(state: State, offset: u64, waiting: usize, out: &mut [u8]) -> Feed
     ensures { λ r. ⌜ (r .waiting ≡ waiting) × (r .written ≤ length (now (out .entry))) ⌝ }
 {
@@ -108,7 +108,7 @@ fn last(state: State, offset: u64, waiting: usize, out: &mut [u8]) -> Feed
     }
 }
 
-// Where the buffer holds no whole record: reads on, and writes the last line where the trace ends. A trace that can't be read has no last line.
+// Reads on, since the buffer holds no whole record; writes the last line if the trace ends. If the read fails, there is no last line.
 fn read_on(
     file: i32,
     state: State,
@@ -135,7 +135,7 @@ fn read_on(
     }
 }
 
-// The records that were played go, and what waits behind them moves to the buffer's front.
+// Drops the played records from the buffer: moves the bytes after them to its front.
 fn go_on(f: Feed, p: Played, buffer: &mut [u8]) -> Feed
     requires { ⌜ (p .taken ≤ f .waiting) × (f .waiting ≤ length (now buffer)) ⌝ }
     ensures { λ r. ⌜ (r .waiting ≤ length (now (buffer .entry))) × (r .written ≡ p .written) ⌝ }
@@ -154,8 +154,8 @@ fn go_on(f: Feed, p: Played, buffer: &mut [u8]) -> Feed
     }
 }
 
-// One turn: plays what waits in the buffer, as much as `out` has room for; reads on where that holds no whole record; writes the last line where
-// the trace ends. The caller writes out the front of `out` that is written.
+// Takes one turn: plays the records in the buffer, as many as `out` has room for; reads on if there is no whole one; writes the last line
+// if the trace ends. The caller then writes out the first `written` bytes of `out`.
 pub fn turn(
     file: i32,
     f: Feed,

@@ -1,5 +1,5 @@
-// Plays a trace from standard input, as the trace program does, and writes the state after each call's line, in the form of oracle/README.md ("Formats"), so that
-// every field of every block can be compared with the original's. Its argument says nothing to it.
+// Plays a trace from standard input, as the trace program does, and writes the state after each call's line, in the form of
+// oracle/README.md ("Formats"), so that every field of every block can be compared with the original's. It ignores its argument.
 use block::Block;
 use feed::Feed;
 use sizes::Pool;
@@ -7,7 +7,7 @@ use state::State;
 
 // ---- lines
 
-// The hash of so many words of a map.
+// Hashes `count` words of a map from word `base` on.
 fn hash(words: &[u32], base: usize, count: u32) -> u64 {
     let mut h: u64 = 0;
     let mut i: u32 = 0;
@@ -75,7 +75,7 @@ fn show_block(age: usize, b: Block, w: usize, used: &[u32], stop: &[u32]) {
 
 fn show_blocks(s: State, used: &[u32], stop: &[u32]) {
     let mut i: usize = 0;
-    while i < 64 {
+    while i < state::SLOT_LIMIT {
         if i < s.count {
             show_block(i, s.blocks[i], s.w, used, stop);
         }
@@ -91,7 +91,7 @@ fn show_state(s: State, used: &[u32], stop: &[u32]) {
 
 // ---- the trace
 
-// What a turn wrote, and the state where that is a call's line: behind the last line there is none.
+// Shows what a turn wrote, and the state if that was a call's line. The trace's last line has no state after it.
 fn show_turn(f: Feed, used: &[u32], stop: &[u32], out: &[u8]) {
     show::front(out, f.written);
     if 0 < f.written && !f.done {
@@ -100,10 +100,10 @@ fn show_turn(f: Feed, used: &[u32], stop: &[u32], out: &[u8]) {
     }
 }
 
-// With room for one line in `out` a turn takes one record at most.
+// Plays the whole trace. `out` has room for one line only, so that a turn plays at most one record.
 fn play_all(used: &mut [u32], stop: &mut [u32], buffer: &mut [u8], out: &mut [u8]) {
     let mut f = feed::start();
-    // nothing says that a file ends, so the turns count down from a number that no run uses up
+    // Bounds the loop for the checker: nothing proves that a file ends.
     let mut turns = u64::MAX;
     while 0 < turns && !f.done {
         f = feed::turn(libc::STDIN_FILENO, f, used, stop, buffer, out);

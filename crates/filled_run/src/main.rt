@@ -1,5 +1,5 @@
-// Plays a trace from standard input with an image of the arena lent to each call, and tries a write into a span after each, in the form of oracle/README.md
-// ("Filled mode"), so that every byte of the image can be compared with the original's.
+// Plays a trace from standard input, lends each call an image of the arena and tries a write into a span after it, in the form of
+// oracle/README.md ("Filled mode"), so that every byte of the image can be compared with the original's.
 use records::Call;
 use records::Record;
 use state::Answer;
@@ -9,7 +9,7 @@ ghost use mathlib.Core.Path.{_≡_};
 ghost use Prim.Native.Nat.{_≤_, _<_};
 ghost use lib.ListN.{length};
 
-// Its bytes are 44 33 22 11.
+// In memory: the bytes 44 33 22 11.
 const PATTERN: u32 = 0x11223344;
 
 // ---- calls
@@ -34,14 +34,14 @@ fn call(s: State, used: &mut [u32], stop: &mut [u32], image: &mut [u8], c: Call)
     }
 }
 
-// A good creation starts with zero bytes.
+// Clears the image after a granted creation.
 fn clear_where_created(answer: Answer, image: &mut [u8]) {
     if let Answer::Created(_, _, _) = answer {
         image::fill_pattern(image, 0, image.len(), 0);
     }
 }
 
-// n, or all of the bytes where they are fewer.
+// Returns the lesser of `n` and the number of bytes.
 fn at_most(n: u64, bytes: &[u8]) -> usize
     ensures { λ r. ⌜ r ≤ length (now (bytes .entry)) ⌝ }
 {
@@ -66,7 +66,7 @@ fn call_address(c: Call) -> u64 {
     }
 }
 
-// The address that the answer tells, or else the call's own.
+// Returns the address of the answer's span, or else the call's own address.
 fn write_address(answer: Answer, c: Call) -> u64 {
     match answer {
         Answer::Granted(x) => x.address,
@@ -85,7 +85,7 @@ fn near(k: u64) -> u64
     k % 60 * 7 % 60
 }
 
-// Now and then one whose sum with the length passes 64 bits, and one that is far from the span's start.
+// Returns the write's offset: now and then so large that adding the length passes 64 bits, or far from the span's start.
 fn write_offset(k: u64) -> u64 {
     match k % 16 {
         0 => u64::MAX - k % 3,
@@ -94,7 +94,7 @@ fn write_offset(k: u64) -> u64 {
     }
 }
 
-// For odd k the write ends with a span of 64 bytes, or one byte behind a span of 64, 128 or 256.
+// Returns the write's length. For odd k the write ends where a span of 64 bytes ends, or one byte after a span of 64, 128 or 256.
 fn write_length(k: u64) -> u64 {
     match k % 8 {
         1 => 64 - near(k),
@@ -186,7 +186,7 @@ fn show_last(s: State, offset: u64, left: usize) {
 
 // ---- the trace
 
-// The bytes of the image that stand for the arena are lent.
+// Makes a call, and lends it the image's bytes that stand for the arena.
 fn call_lent(s: State, used: &mut [u32], stop: &mut [u32], image: &mut [u8], c: Call) -> Outcome {
     let n = at_most(s.length, image);
     call(s, used, stop, &mut image[..n], c)
@@ -202,7 +202,7 @@ fn show_lent(s: State, image: &[u8]) {
     show::line(b"  image", &[hash(&image[..n])]);
 }
 
-// The call number k, its line, and where there is a state, the write and what the image is then.
+// Makes call number k and shows its line; if an allocator exists, tries the write and shows the image's hash.
 fn turn(s: State, used: &mut [u32], stop: &mut [u32], image: &mut [u8], k: u64, c: Call) -> State {
     let o = call_lent(s, used, stop, image, c);
     let answer = o.answer;
@@ -235,7 +235,7 @@ fn play_all(used: &mut [u32], stop: &mut [u32], image: &mut [u8], bytes: &[u8]) 
     let mut state = state::zero_state();
     let mut taken: usize = 0;
     let mut k: u64 = 1;
-    // a trace that fits the buffer has fewer records
+    // bounds the loop: a trace that fits the buffer has fewer records
     while k < 65536 {
         let found = read(bytes, taken);
         let Record::Whole(n, c) = found else {
@@ -248,7 +248,7 @@ fn play_all(used: &mut [u32], stop: &mut [u32], image: &mut [u8], bytes: &[u8]) 
     }
 }
 
-// The image of the longest arena that has one.
+// Makes a zero image of 1 MiB. The calls refuse it for a longer arena.
 fn zeros() -> [u8; 1048576]
     ensures { λ r. ⌜ 1048576 ≡ length r ⌝ }
 {

@@ -18,7 +18,7 @@ use Rattle.state.proofs.Answer.{the-type}
 use Rattle.state.specs.Shape.{badShape}
 use Rattle.machine.specs.Turn.{Turn}
 use Rattle.machine.specs.Span.{queryTurn}
-use Rattle.shape_kept.proofs.Cases.{query-cases}
+use Rattle.machine.proofs.Cases.{query-cases}
 use Rattle.filling.specs.InArena.{InArena}
 use Rattle.filling.proofs.Inside.{span-inside}
 use Rattle.filling.proofs.Lent.{lent-refused, lent-granted, lent-cases}
@@ -35,8 +35,8 @@ IfShown P Reset = Unit {0}
 IfShown P (Refused why) = Unit {0}
 
 -- it lies in the range, and starts at the address that was asked for
-abbrev pub Lies : ℕ → ℕ → ℕ → Span → Type 0
-Lies arena room a x = InArena arena room x × (x .address ≡ a)
+abbrev pub LiesWithin : ℕ → ℕ → ℕ → Span → Type 0
+LiesWithin arena room a x = InArena arena room x × (x .address ≡ a)
 
 module _ (s : State) (u t : List ℕ) (room a : ℕ) where
   -- an image of the arena's length: as a query
@@ -47,13 +47,13 @@ module _ (s : State) (u t : List ℕ) (room a : ℕ) where
   pub looked-refused : (room ≡ s .length → ⊥) → lookedUp s u t room a ≡ Refused (pick (badShape s (length u) (length t)) BadShape InvalidArgument)
   looked-refused ne = ap (λ (x : Turn). x .answer) (lent-refused s u t room (queryTurn s u t a) ne)
 
-  shown-lies : IfShown (Lies (s .arena) (s .length) a) (queryTurn s u t a .answer)
-  shown-lies = query-cases (λ (x : Turn). IfShown (Lies (s .arena) (s .length) a) (x .answer)) s u t (λ why. tt) a (λ j i e h. (span-inside s u t a j i e h, refl))
+  shown-lies : IfShown (LiesWithin (s .arena) (s .length) a) (queryTurn s u t a .answer)
+  shown-lies = query-cases (λ (x : Turn). IfShown (LiesWithin (s .arena) (s .length) a) (x .answer)) s u t a (λ why cond. tt) (λ j i e h. (span-inside s u t a j i e h, refl))
 
-  pub looked-lies : IfShown (Lies (s .arena) room a) (lookedUp s u t room a)
+  pub looked-lies : IfShown (LiesWithin (s .arena) room a) (lookedUp s u t room a)
   looked-lies =
-      lent-cases s u t room (λ (x : Turn). IfShown (Lies (s .arena) room a) (x .answer)) (queryTurn s u t a)
-      (λ e. subst (λ (n : ℕ). IfShown (Lies (s .arena) n a) (queryTurn s u t a .answer)) (sym e) shown-lies) (λ why. tt)
+      lent-cases s u t room (λ (x : Turn). IfShown (LiesWithin (s .arena) room a) (x .answer)) (queryTurn s u t a)
+      (λ e. subst (λ (n : ℕ). IfShown (LiesWithin (s .arena) n a) (queryTurn s u t a .answer)) (sym e) shown-lies) (λ why. tt)
 
 -- ---- where nothing is shown
 pub not-shown : (arena offset : ℕ) (bytes image : List ℕ) (x : Answer) → OneOf (0 ∷ 1 ∷ 2 ∷ 3 ∷ 5 ∷ 6 ∷ []) (tagOf the-type x)

@@ -8,15 +8,15 @@ use borrow.Author.Tests.{leb-true, ltb-true}
 use lib.Dec.{leb, ltb}
 use lib.ListN.{length}
 use Rattle.numbers.specs.Units.{bytesOf}
-use Rattle.sizes.proofs.Cases.{picked, and-left}
+use Rattle.numbers.proofs.Bools.{picked, and-left}
 use Rattle.state.specs.declared.State.{State}
 use Rattle.state.specs.declared.Span.{Span}
 use Rattle.state.specs.Table.{blockAt}
 use Rattle.shape.specs.Shaped.{Shaped}
 use Rattle.shape.proofs.Shaped.{shaped-is}
 use Rattle.machine.specs.Turn.{span, unitOf}
+use Rattle.machine.proofs.Cases.{Holds}
 use Rattle.shape_facts.proofs.Facts.{unit-g, pool-3, found-in, held-is}
-use Rattle.shape_kept.proofs.Cases.{Holds}
 use Rattle.filling.specs.Unused.{bytesOfBlock, blocksUpTo, made}
 use Rattle.filling.specs.InArena.{InArena, AllInArena}
 

@@ -1,6 +1,6 @@
 -- A call with an image is the call without one, or a refusal that changes nothing; and what each call fills lies in the arena. Assumes nothing.
 use Prim.Native.Nat.{ℕ, _-_, _≤_, _<_}
-use mathlib.Core.Bool.{Bool, true, false, not}
+use mathlib.Core.Bool.{Bool, true, false}
 use mathlib.Core.List.{List, [], _++_}
 use mathlib.Core.Path.{_≡_, refl, sym, ap, subst, subst₂, _∙_}
 use native.Mathlib.Nat.{le-refl}
@@ -10,37 +10,34 @@ use lib.Dec.{eqb}
 use lib.ListN.{length, getD}
 use Rattle.numbers.specs.Pick.{pick}
 use Rattle.numbers.specs.Units.{bytesOf}
-use Rattle.sizes.proofs.Cases.{picked}
-use Rattle.block.specs.Marking.{markReleased}
+use Rattle.numbers.proofs.Bools.{picked}
 use Rattle.state.specs.declared.State.{State}
 use Rattle.state.specs.declared.Span.{Span}
-use Rattle.state.specs.declared.Found.{Found}
-use Rattle.state.specs.declared.Held.{Held}
 use Rattle.state.specs.declared.Refusal.{Refusal}
 use Rattle.state.specs.declared.Refusal.the-variants.{InvalidArgument, BadShape}
 use Rattle.state.specs.declared.Answer.{Answer}
-use Rattle.state.specs.declared.Answer.the-variants.{Released, Shown, Reset, Refused}
+use Rattle.state.specs.declared.Answer.the-variants.{Shown, Reset, Refused}
 use Rattle.state.specs.declared.Outcome.{Outcome}
 use Rattle.state.specs.Outcome.{refusal}
 use Rattle.state.specs.Table.{blockAt}
 use Rattle.state.specs.Shape.{goodShape, badShape}
 use Rattle.state.specs.Find.{lookup}
 use Rattle.shape.proofs.Shaped.{shaped-is}
-use Rattle.machine.specs.Turn.{Turn, turn, refuse, span, withLive, unitOf}
-use Rattle.machine.specs.Span.{queryHeld, queryFound, queryTurn}
-use Rattle.machine.specs.Alloc.{allocMarked, allocMade, allocTurn}
-use Rattle.machine.specs.Release.{lessUsed, settle, releaseUnits, releaseTurn}
+use Rattle.machine.specs.Turn.{Turn, turn, refuse, span, unitOf}
+use Rattle.machine.specs.Span.{queryTurn}
+use Rattle.machine.specs.Alloc.{poolFor, unitsFor, searchFor, newSize, allocMarked, allocMade, allocTurn}
+use Rattle.machine.specs.Release.{releaseTurn}
 use Rattle.machine.specs.Shrink.{shrinkFound, shrinkTurn}
 use Rattle.machine.specs.Reset.{emptyTable, clearBlocks, kept, resetTurn}
 use Rattle.machine.specs.Machine.{Call, create, alloc, release, shrink, query, softReset, hardReset, step}
+use Rattle.machine.proofs.Cases.{Holds, search-count, release-cases, shrink-cases, reset-cases, alloc-cases, freed-answer}
+use Rattle.machine.proofs.Searched.{search-other}
 use Rattle.shape_facts.proofs.Facts.{count-64}
-use Rattle.shape_facts.proofs.Searched.{search-other}
 use Rattle.shape_kept.specs.Sized.{Sized}
 use Rattle.shape_kept.specs.Closed.{Good}
-use Rattle.shape_kept.proofs.Cases.{Holds, poolFor, unitsFor, searchFor, newSize, search-count, settle-cases, release-cases, shrink-cases, reset-cases, alloc-cases}
 use Rattle.shape_kept.proofs.Kept.{kept-other}
 use Rattle.shape_kept.proofs.Closed.{closed-other}
-use Rattle.filling.specs.Unused.{made, freed, behind, cutOff, keptBytes, blocksUpTo, unused, filledImage, imageAfter, lent, lentStep}
+use Rattle.filling.specs.Unused.{made, freed, tailOf, cutOff, keptBytes, blocksUpTo, unused, filledImage, imageAfter, lent, lentStep}
 use Rattle.filling.specs.InArena.{AllInArena, Outside}
 use Rattle.filling.proofs.Unused.{within-append, made-none, blocks-none, filled-none, filled-append, filled-stays}
 use Rattle.filling.proofs.Inside.{span-inside, tail-inside, blocks-inside, made-inside}
@@ -99,10 +96,10 @@ module _ (s : State) (u t : List ℕ) where
   In xs = AllInArena (s .arena) (s .length) xs
 
   alloc-inside : Sized s → (size : ℕ) → In (made (s .count) (allocTurn s u t size .state))
-  alloc-inside z size = alloc-cases P s u t (λ why g. none s (le-refl (s .count)))
-      size (λ bytes k g. none (searchFor s u bytes .state) (few bytes))
+  alloc-inside z size = alloc-cases P s u t size
+      (λ why early cond g. none s (le-refl (s .count))) (λ bytes k miss short g. none (searchFor s u bytes .state) (few bytes))
       (λ bytes j i k e g. none (allocMarked (searchFor s u bytes .state) u t j i (unitsFor s bytes) .state) (few bytes))
-      (λ bytes at slot k p g.
+      (λ bytes at slot k miss p g.
       let r = searchFor s u bytes .state in
       let x = allocMade r u t (poolFor s bytes) (unitsFor s bytes) (newSize r (poolFor s bytes) bytes) at slot in
       let o = search-other s u (poolFor s bytes) (unitsFor s bytes) in
@@ -119,36 +116,25 @@ module _ (s : State) (u t : List ℕ) where
       few : (bytes : ℕ) → searchFor s u bytes .state .count ≤ s .count
       few bytes = omega (arith, search-count s u bytes)
 
-  -- a released span, whatever becomes of its block
-  settled : (answer : Answer) (r : State) (v w : List ℕ) (j : ℕ) → settle answer r v w j .answer ≡ answer
-  settled answer r v w j = settle-cases (λ (x : Turn). x .answer ≡ answer) r v w answer j (λ e. refl) (λ e d. refl) (λ e d f. refl)
-
-  free-answer : (a j i e : ℕ) → releaseUnits s u t a j i e .answer ≡ Released (span a (bytesOf (e - i) (unitOf s (blockAt s j))))
-  free-answer a j i e =
-      let b = markReleased (s .w) (blockAt s j) i e u t in
-      settled (Released (span a (bytesOf (e - i) (unitOf s (blockAt s j))))) (withLive (lessUsed s j (b .block) (e - i)) (s .live - 1)) (b .used) (b .stop) j
-
+  -- a released span
   release-inside : (a : ℕ) → In (freed (releaseTurn s u t a .answer))
   release-inside a =
-      release-cases (λ (x : Turn). In (freed (x .answer))) s u t (λ why. tt) a
-      (λ j i e k. subst (λ (x : Answer). In (freed x)) (sym (free-answer a j i e)) (span-inside s u t a j i e (k .holds), tt))
+      release-cases (λ (x : Turn). In (freed (x .answer))) s u t a (λ why cond. tt)
+      (λ j i e k. subst (λ (x : Answer). In (freed x)) (sym (freed-answer s u t a j i e)) (span-inside s u t a j i e (k .holds), tt))
 
   -- a query shows the span that stands there
   shows : (a j i e : ℕ) → Holds s u t a j i e → queryTurn s u t a .answer ≡ Shown (span a (bytesOf (e - i) (unitOf s (blockAt s j))))
   unfolding queryTurn
-  shows a j i e h =
-      ap (λ (b : Bool). pick (not b) (refuse BadShape s u t) (queryFound s u t a (lookup s a)) .answer) (h .good)
-      ∙ ap (λ (f : Found). queryFound s u t a f .answer) (sym (h .found))
-      ∙ ap (λ (x : Held). queryHeld s u t a j x .answer) (h .held)
+  shows a j i e h = rw (h .good, ← h .found, h .held)
 
-  cut-inside : (a j i e n : ℕ) → Holds s u t a j i e → n ≤ e - i → In (behind (span a (bytesOf n (unitOf s (blockAt s j)))) (queryTurn s u t a .answer))
+  cut-inside : (a j i e n : ℕ) → Holds s u t a j i e → n ≤ e - i → In (tailOf (span a (bytesOf n (unitOf s (blockAt s j)))) (queryTurn s u t a .answer))
   cut-inside a j i e n h l =
-      subst (λ (x : Answer). In (behind (span a (bytesOf n (unitOf s (blockAt s j)))) x)) (sym (shows a j i e h)) (tail-inside s u t a j i e h n l, tt)
+      subst (λ (x : Answer). In (tailOf (span a (bytesOf n (unitOf s (blockAt s j)))) x)) (sym (shows a j i e h)) (tail-inside s u t a j i e h n l, tt)
 
   shrink-inside : (a size : ℕ) → let x = shrinkTurn s u t a size .answer in In (freed x ++ cutOff (queryTurn s u t a .answer) x)
   shrink-inside a size =
-      shrink-cases P s u t (λ why. tt) a size
-      (release-cases P s u t (λ why. tt) a (λ j i e k. subst (λ (x : Answer). In (freed x ++ cutOff was x)) (sym (free-answer a j i e)) (span-inside s u t a j i e (k .holds), tt)))
+      shrink-cases P s u t a size (λ why cond. tt)
+      (λ none. release-cases P s u t a (λ why cond. tt) (λ j i e k. subst (λ (x : Answer). In (freed x ++ cutOff was x)) (sym (freed-answer s u t a j i e)) (span-inside s u t a j i e (k .holds), tt)))
       (λ j i e n h q. cut-inside a j i e n h (omega (arith, q)))
       (λ j i e n k. cut-inside a j i e n (k .holds) (omega (arith, k .less)))
     where
@@ -165,7 +151,7 @@ module _ (s : State) (u t : List ℕ) where
 
   reset-inside : Sized s → (hard : Bool) → In (keptBytes (resetTurn s u t hard .state) (resetTurn s u t hard .answer))
   reset-inside z hard =
-      reset-cases P s u t (λ why g. tt) hard (λ good g. all (emptyTable s) refl refl (g good))
+      reset-cases P s u t hard (λ bad g. tt) (λ good g. all (emptyTable s) refl refl (g good))
       (λ good off g. all (kept s (s .count)) (ap (λ (y : State). y .arena) (kept-other s (s .count))) (ap (λ (y : State). y .length) (kept-other s (s .count))) (g good))
       (reset-closed z hard)
     where
@@ -213,10 +199,10 @@ module _ (s : State) (u t : List ℕ) where
   -- nor does one that is refused at all
   refused-made : (size : ℕ) (why : Refusal) → allocTurn s u t size .answer ≡ Refused why → made (s .count) (allocTurn s u t size .state) ≡ []
   refused-made size why =
-      alloc-cases (λ (x : Turn). x .answer ≡ Refused why → made (s .count) (x .state) ≡ []) s u t (λ w e. unused-refused (alloc size) w)
-      size (λ bytes k e. made-none (s .count) (searchFor s u bytes .state) (omega (arith, search-count s u bytes)))
+      alloc-cases (λ (x : Turn). x .answer ≡ Refused why → made (s .count) (x .state) ≡ []) s u t size
+      (λ w early cond e. unused-refused (alloc size) w) (λ bytes k miss short e. made-none (s .count) (searchFor s u bytes .state) (omega (arith, search-count s u bytes)))
       (λ bytes j i k h e. absurd (let no : _≡_ {A = ℕ} 0 1 = cc in omega arith))
-      (λ bytes at slot k h e. absurd (let no : _≡_ {A = ℕ} 0 1 = cc in omega arith))
+      (λ bytes at slot k miss h e. absurd (let no : _≡_ {A = ℕ} 0 1 = cc in omega arith))
 
   step-refused : (c : Call) (why : Refusal) → step s u t c .answer ≡ Refused why → unused s u t c (step s u t c) ≡ []
   step-refused (create a) why e = refl
@@ -293,10 +279,10 @@ module _ (s : State) (u t : List ℕ) (pattern : ℕ) (image : List ℕ) where
 -- ---- the table has room for what is made or kept
 module _ (s : State) (u t : List ℕ) where
   pub made-few : Sized s → (size : ℕ) → s .count < allocTurn s u t size .state .count → s .count < 64
-  made-few z size = alloc-cases P s u t (λ why g h. absurd (omega (arith, h)))
-      size (λ bytes k g h. absurd (omega (arith, h, search-count s u bytes)))
+  made-few z size = alloc-cases P s u t size
+      (λ why early cond g h. absurd (omega (arith, h))) (λ bytes k miss short g h. absurd (omega (arith, h, search-count s u bytes)))
       (λ bytes j i k e g h. absurd (omega (arith, h, search-count s u bytes)))
-      (λ bytes at slot k p g h.
+      (λ bytes at slot k miss p g h.
       let r = searchFor s u bytes .state in
       let x = allocMade r u t (poolFor s bytes) (unitsFor s bytes) (newSize r (poolFor s bytes) bytes) at slot in
       omega (arith, h, count-64 (x .state) (length (x .used)) (length (x .stop)) (shaped-is (x .state) (length (x .used)) (length (x .stop)) (g (k .good)))))
@@ -307,7 +293,7 @@ module _ (s : State) (u t : List ℕ) where
 
   pub kept-few : Sized s → (hard : Bool) → resetTurn s u t hard .answer ≡ Reset → resetTurn s u t hard .state .count ≤ 64
   kept-few z hard =
-      reset-cases P s u t (λ why g e. let no : _≡_ {A = ℕ} 0 1 = cc in absurd (omega arith)) hard (λ good g e. few (emptyTable s) (g good))
+      reset-cases P s u t hard (λ bad g e. let no : _≡_ {A = ℕ} 0 1 = cc in absurd (omega arith)) (λ good g e. few (emptyTable s) (g good))
       (λ good off g e. few (kept s (s .count)) (g good)) (reset-closed s u t z hard)
     where
       P : Turn → Type 0

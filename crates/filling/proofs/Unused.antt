@@ -20,7 +20,7 @@ use Rattle.image.proofs.Image.{length-filled, filled-out}
 use Rattle.state.specs.declared.State.{State}
 use Rattle.state.specs.declared.Span.{Span}
 use Rattle.state.specs.Table.{blockAt}
-use Rattle.filling.specs.Unused.{bytesOfBlock, made, freed, behind, cutOff, blocksUpTo, keptBytes, filledImage}
+use Rattle.filling.specs.Unused.{bytesOfBlock, made, freed, tailOf, cutOff, blocksUpTo, keptBytes, filledImage}
 use Rattle.filling.specs.InArena.{InArena, AllInArena, Outside}
 
 pub filled-none : (arena pattern : ℕ) (image : List ℕ) → filledImage arena pattern image [] ≡ image
@@ -92,7 +92,7 @@ freed-none (Shown x) h = refl
 freed-none Reset h = refl
 freed-none (Refused r) h = refl
 
-pub behind-none : (x : Span) (was : Answer) → OneOf (0 ∷ 1 ∷ 2 ∷ 3 ∷ 5 ∷ 6 ∷ []) (tagOf the-type was) → behind x was ≡ []
+pub behind-none : (x : Span) (was : Answer) → OneOf (0 ∷ 1 ∷ 2 ∷ 3 ∷ 5 ∷ 6 ∷ []) (tagOf the-type was) → tailOf x was ≡ []
 behind-none x (Created size g pools) h = refl
 behind-none x (Granted y) h = refl
 behind-none x (Released y) h = refl

@@ -9,8 +9,8 @@ use lib.Dec.{leb}
 use lib.ListN.{length, getD}
 use lib.Seq.{sets}
 use Rattle.image.proofs.Sets.{sets-in, sets-out}
+use Rattle.numbers.proofs.Bools.{picked}
 use Rattle.numbers.proofs.Split.{by-eq}
-use Rattle.sizes.proofs.Cases.{picked}
 use Rattle.state.specs.declared.State.{State}
 use Rattle.state.specs.declared.Span.{Span}
 use Rattle.state.specs.declared.Refusal.the-variants.{InvalidArgument}
@@ -19,7 +19,7 @@ use Rattle.state.specs.declared.Answer.the-variants.{Created, Granted, Released
 use Rattle.machine.specs.Turn.{span}
 use Rattle.machine.specs.Span.{queryTurn}
 use Rattle.filling.specs.Copying.{fits, written, lookedUp, copyAnswer, copyImage}
-use Rattle.filling.proofs.Copying.{IfShown, Lies, looked-lies, looked-plain, looked-refused}
+use Rattle.filling.proofs.Copying.{IfShown, LiesWithin, looked-lies, looked-plain, looked-refused}
 
 module _ (s : State) (u t : List ℕ) (a : ℕ) where
   module _ (image : List ℕ) (offset : ℕ) (bytes : List ℕ) where
@@ -30,7 +30,7 @@ module _ (s : State) (u t : List ℕ) (a : ℕ) where
     pub copied-out : (k : ℕ) → s .arena ≤ k → (k < a + offset) ⊎ (a + offset + length bytes ≤ k) → getD after (k - s .arena) 0 ≡ getD image (k - s .arena) 0
     copied-out k low out = go (lookedUp s u t (length image) a) (looked-lies s u t (length image) a)
       where
-        go : (c : Answer) → IfShown (Lies (s .arena) (length image) a) c
+        go : (c : Answer) → IfShown (LiesWithin (s .arena) (length image) a) c
             → getD (written (s .arena) offset bytes image (fits offset (length bytes) c)) (k - s .arena) 0 ≡ getD image (k - s .arena) 0
         go (Shown x) w =
             picked (λ (c : Answer). getD (written (s .arena) offset bytes image c) (k - s .arena) 0 ≡ getD image (k - s .arena) 0)
@@ -52,7 +52,7 @@ module _ (s : State) (u t : List ℕ) (a : ℕ) where
         by-eq (length image) (s .length) (λ e. go (lookedUp s u t (length image) a) (looked-lies s u t (length image) a) (looked-plain s u t (length image) a e))
         (λ ne. inl (ap (λ (c : Answer). written (s .arena) offset bytes image (fits offset (length bytes) c)) (looked-refused s u t (length image) a ne)))
       where
-        go : (c : Answer) → IfShown (Lies (s .arena) (length image) a) c → c ≡ queryTurn s u t a .answer
+        go : (c : Answer) → IfShown (LiesWithin (s .arena) (length image) a) c → c ≡ queryTurn s u t a .answer
             → (written (s .arena) offset bytes image (fits offset (length bytes) c) ≡ image)
             ⊎ ((size : ℕ) × (queryTurn s u t a .answer ≡ Shown (span a size)) × (offset + length bytes ≤ size))
         go (Shown x) e q =
@@ -77,7 +77,7 @@ module _ (s : State) (u t : List ℕ) (a : ℕ) where
         Put c = c ≡ Shown x
             → (x .address ≡ a) × (offset + length bytes ≤ x .size) × (getD (written (s .arena) offset bytes image c) (a + offset + j - s .arena) 0 ≡ getD bytes j 0)
 
-        go : (c : Answer) → IfShown (Lies (s .arena) (length image) a) c → Put (fits offset (length bytes) c)
+        go : (c : Answer) → IfShown (LiesWithin (s .arena) (length image) a) c → Put (fits offset (length bytes) c)
         go (Shown y) w =
             picked Put (leb (offset + length bytes) (y .size)) (Shown y) (Refused InvalidArgument)
             (λ f q.

@@ -1,10 +1,9 @@
 -- Document 01, Refusal numbers: exactly when each is given to a call with an image. Assumes nothing.
-use Prim.Native.Nat.{ℕ}
 use mathlib.Core.Bool.{true, false}
-use mathlib.Core.List.{List}
 use mathlib.Core.Logic.{_⊎_}
 use mathlib.Core.Path.{_≡_}
 use lib.ListN.{length}
+use Rattle.numbers.specs.Names.{Bytes, Map}
 use Rattle.state.specs.declared.State.{State}
 use Rattle.state.specs.declared.Refusal.{Refusal}
 use Rattle.state.specs.declared.Refusal.the-variants.{InvalidArgument, BadShape}
@@ -12,8 +11,8 @@ use Rattle.state.specs.declared.Answer.the-variants.{Refused}
 use Rattle.state.specs.Shape.{badShape}
 use Rattle.machine.specs.Machine.{Call, step}
 
--- 5 for a bad shape; then 1 for an image whose length, its room, isn't the arena's; then as the call without an image
-abbrev pub LentWhen : State → List ℕ → List ℕ → ℕ → Call → Refusal → Type 0
+-- 5 for a bad shape; then 1 if the image's length, room, isn't the arena's; then as the call without an image
+abbrev pub LentWhen : State → Map → Map → Bytes → Call → Refusal → Type 0
 LentWhen s u t room c why =
     ((badShape s (length u) (length t) ≡ true) × (why ≡ BadShape))
     ⊎ (((badShape s (length u) (length t) ≡ false) × (room ≡ s .length → ⊥) × (why ≡ InvalidArgument))

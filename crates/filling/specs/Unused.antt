@@ -1,8 +1,9 @@
--- Document 01, Filling: a call that an image of the arena is lent to, and the bytes that it fills. Assumes nothing.
+-- Document 01, Filling: a call with an image of the arena lent to it, and the bytes that it fills. Assumes nothing.
 use Prim.Native.Nat.{ℕ, zero, suc, _+_, _-_}
 use mathlib.Core.List.{List, [], _∷_, _++_}
 use lib.Dec.{eqb, ltb}
 use lib.ListN.{length}
+use Rattle.numbers.specs.Names.{Address, Bytes, Map}
 use Rattle.numbers.specs.Pick.{pick}
 use Rattle.image.specs.Image.{filledAt}
 use Rattle.block.specs.declared.Block.{Block}
@@ -18,19 +19,19 @@ use Rattle.machine.specs.Span.{queryTurn}
 use Rattle.machine.specs.Machine.{Call, create, alloc, release, shrink, query, softReset, hardReset, step}
 
 -- ---- the call
--- an image whose length, its room, isn't the arena's is refusal 1, straight after 5
-abbrev pub lent : State → List ℕ → List ℕ → ℕ → Turn → Turn
+-- an image whose length, room, isn't the arena's is refusal 1, straight after 5
+abbrev pub lent : State → Map → Map → Bytes → Turn → Turn
 lent s u t room x =
     pick (badShape s (length u) (length t)) (refuse BadShape s u t) (pick (eqb room (s .length)) x (refuse InvalidArgument s u t))
 
-abbrev pub lentStep : State → List ℕ → List ℕ → ℕ → Call → Turn
+abbrev pub lentStep : State → Map → Map → Bytes → Call → Turn
 lentStep s u t room c = lent s u t room (step s u t c)
 
 -- ---- the bytes that it fills
 abbrev pub bytesOfBlock : Block → Span
 bytesOfBlock b = span (b .base) (b .size)
 
--- a new block's bytes at its making: there are more blocks than before
+-- the bytes of a new block; there is one if there are more blocks than before
 abbrev pub made : ℕ → State → List Span
 made before r = pick (ltb before (r .count)) (bytesOfBlock (blockAt r before) ∷ []) []
 
@@ -44,19 +45,19 @@ freed (Shown x) = []
 freed Reset = []
 freed (Refused r) = []
 
--- a span's bytes behind those that it keeps
-abbrev pub behind : Span → Answer → List Span
-behind x (Shown y) = span (x .address + x .size) (y .size - x .size) ∷ []
-behind x (Created size g pools) = []
-behind x (Granted y) = []
-behind x (Released y) = []
-behind x (Shrunk y) = []
-behind x Reset = []
-behind x (Refused r) = []
+-- the bytes from the end of the shortened span x to the end of the span that the query showed
+abbrev pub tailOf : Span → Answer → List Span
+tailOf x (Shown y) = span (x .address + x .size) (y .size - x .size) ∷ []
+tailOf x (Created size g pools) = []
+tailOf x (Granted y) = []
+tailOf x (Released y) = []
+tailOf x (Shrunk y) = []
+tailOf x Reset = []
+tailOf x (Refused r) = []
 
--- the bytes that a shrink cuts off, where the span was as a query shows it
+-- the bytes that a shrink cuts off; was is what a query shows before it
 abbrev pub cutOff : Answer → Answer → List Span
-cutOff was (Shrunk x) = behind x was
+cutOff was (Shrunk x) = tailOf x was
 cutOff was (Created size g pools) = []
 cutOff was (Granted x) = []
 cutOff was (Released x) = []
@@ -64,7 +65,7 @@ cutOff was (Shown x) = []
 cutOff was Reset = []
 cutOff was (Refused r) = []
 
--- all units of each kept block
+-- all bytes of the first n blocks
 unfoldable pub blocksUpTo : State → ℕ → List Span
 blocksUpTo r zero = []
 blocksUpTo r (suc n) = blocksUpTo r n ++ (bytesOfBlock (blockAt r n) ∷ [])
@@ -78,8 +79,8 @@ keptBytes r (Shrunk x) = []
 keptBytes r (Shown x) = []
 keptBytes r (Refused why) = []
 
--- a shrink to 0 is a release
-abbrev pub unused : State → List ℕ → List ℕ → Call → Turn → List Span
+-- the bytes that a call leaves unused; a shrink to 0 is a release
+abbrev pub unused : State → Map → Map → Call → Turn → List Span
 unused s u t (alloc size) x = made (s .count) (x .state)
 unused s u t (release a) x = freed (x .answer)
 unused s u t (shrink a size) x = freed (x .answer) ++ cutOff (queryTurn s u t a .answer) (x .answer)
@@ -88,11 +89,11 @@ unused s u t hardReset x = keptBytes (x .state) (x .answer)
 unused s u t (create a) x = []
 unused s u t (query a) x = []
 
--- ---- the image afterwards; its first byte is the arena's
-unfoldable pub filledImage : ℕ → ℕ → List ℕ → List Span → List ℕ
+-- ---- the image afterwards; its first byte is the arena's first
+unfoldable pub filledImage : Address → ℕ → List ℕ → List Span → List ℕ
 filledImage arena pattern image [] = image
 filledImage arena pattern image (x ∷ xs) = filledImage arena pattern (filledAt image (x .address - arena) (x .size) pattern) xs
 
--- what the call leaves of it
-abbrev pub imageAfter : State → List ℕ → List ℕ → ℕ → List ℕ → Call → List ℕ
+-- the image that the call leaves
+abbrev pub imageAfter : State → Map → Map → ℕ → List ℕ → Call → List ℕ
 imageAfter s u t pattern image c = filledImage (s .arena) pattern image (unused s u t c (lentStep s u t (length image) c))

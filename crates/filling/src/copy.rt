@@ -1,4 +1,4 @@
-// The call copy_from_slice: a write into a span.
+// The call copy_from_slice: writes into a span.
 use state::Answer;
 use state::Refusal;
 use state::Span;
@@ -9,7 +9,7 @@ ghost use Rattle.state.specs.declared.Answer.the-variants.{Shown};
 ghost use Rattle.filling.specs.InArena.{InArena};
 ghost use Rattle.filling.specs.Copying.{fits, written, lookedUp, copyAnswer, copyImage};
 
-// What a query shows, where the image is as long as the arena.
+// Queries the address; refuses if the image is not as long as the arena.
 fn look_up(s: State, used: &[u32], stop: &[u32], room: usize, address: u64) -> Answer
     ensures { λ r. ⌜ r ≡ lookedUp s (now (used .entry)) (now (stop .entry)) room address ⌝ }
 {
@@ -19,7 +19,7 @@ fn look_up(s: State, used: &[u32], stop: &[u32], room: usize, address: u64) -> A
     query::query(s, used, stop, address)
 }
 
-// The bytes into a span, from an offset on, if they end with the span at the latest.
+// Writes the bytes into a span from an offset on; refuses if they pass the span's end.
 fn write(image: &mut [u8], arena: u64, x: Span, offset: u64, bytes: &[u8]) -> Answer
     requires { ⌜ InArena arena (length (now image)) x ⌝ }
     ensures { λ r. ⌜ r ≡ fits offset (length (now (bytes .entry))) (Shown x) ⌝ }

@@ -1,4 +1,4 @@
-// The calls with an image of the arena lent to them: what a call leaves unused is filled by a pattern.
+// The calls with an image of the arena lent to them: each fills with a pattern the bytes that it leaves unused.
 pub mod copy;
 pub mod fill;
 
@@ -11,11 +11,11 @@ ghost use Rattle.numbers.specs.Pick.{pick};
 ghost use Rattle.state.specs.declared.Refusal.the-variants.{InvalidArgument, BadShape};
 ghost use Rattle.state.specs.Shape.{badShape};
 ghost use Rattle.state.specs.Outcome.{refusal};
-ghost use Rattle.machine.specs.Turn.{turn};
+ghost use Rattle.machine.specs.Turn.{turnOf};
 ghost use Rattle.machine.specs.Machine.{alloc, release, shrink, softReset, hardReset};
 ghost use Rattle.filling.specs.Unused.{lentStep, imageAfter};
 
-// Why a call is refused where the image is not as long as the arena: a bad shape comes first.
+// Returns the refusal of an image that is not as long as the arena: 5 if the shape is bad too, else 1.
 pub fn wrong_image(s: State, used: usize, stop: usize) -> Refusal
     ensures { λ r. ⌜ r ≡ pick (badShape s used stop) BadShape InvalidArgument ⌝ }
 {
@@ -31,7 +31,7 @@ fn not_lent(s: State, used: usize, stop: usize) -> Outcome
     state::refused(s, wrong_image(s, used, stop))
 }
 
-// A span of at least `size` bytes; a new block is filled.
+// Grants a span of at least `size` bytes, and fills a new block.
 pub fn alloc(
     s: State,
     used: &mut [u32],
@@ -40,7 +40,7 @@ pub fn alloc(
     pattern: u32,
     size: u64,
 ) -> Outcome
-    ensures { λ r. ⌜ turn (r .answer) (r .state) (now (used .exit)) (now (stop .exit)) ≡ lentStep s (now (used .entry)) (now (stop .entry)) (length (now (image .entry))) (alloc size) ⌝ }
+    ensures { λ r. ⌜ turnOf r (now (used .exit)) (now (stop .exit)) ≡ lentStep s (now (used .entry)) (now (stop .entry)) (length (now (image .entry))) (alloc size) ⌝ }
     ensures { λ _. ⌜ now (image .exit) ≡ imageAfter s (now (used .entry)) (now (stop .entry)) pattern (now (image .entry)) (alloc size) ⌝ }
 {
     if image.len() as u64 != s.length {
@@ -53,7 +53,7 @@ pub fn alloc(
     r
 }
 
-// The span that starts at an address goes, and its bytes are filled.
+// Frees the span that starts at an address, and fills its bytes.
 pub fn release(
     s: State,
     used: &mut [u32],
@@ -62,7 +62,7 @@ pub fn release(
     pattern: u32,
     address: u64,
 ) -> Outcome
-    ensures { λ r. ⌜ turn (r .answer) (r .state) (now (used .exit)) (now (stop .exit)) ≡ lentStep s (now (used .entry)) (now (stop .entry)) (length (now (image .entry))) (release address) ⌝ }
+    ensures { λ r. ⌜ turnOf r (now (used .exit)) (now (stop .exit)) ≡ lentStep s (now (used .entry)) (now (stop .entry)) (length (now (image .entry))) (release address) ⌝ }
     ensures { λ _. ⌜ now (image .exit) ≡ imageAfter s (now (used .entry)) (now (stop .entry)) pattern (now (image .entry)) (release address) ⌝ }
 {
     if image.len() as u64 != s.length {
@@ -75,7 +75,7 @@ pub fn release(
     r
 }
 
-// The span that starts at an address keeps the units that `size` bytes take, and the bytes behind them are filled; without a byte it goes.
+// Shortens the span that starts at an address to the units that `size` bytes take, and fills the bytes after them; a size of 0 releases it.
 pub fn shrink(
     s: State,
     used: &mut [u32],
@@ -85,7 +85,7 @@ pub fn shrink(
     address: u64,
     size: u64,
 ) -> Outcome
-    ensures { λ r. ⌜ turn (r .answer) (r .state) (now (used .exit)) (now (stop .exit)) ≡ lentStep s (now (used .entry)) (now (stop .entry)) (length (now (image .entry))) (shrink address size) ⌝ }
+    ensures { λ r. ⌜ turnOf r (now (used .exit)) (now (stop .exit)) ≡ lentStep s (now (used .entry)) (now (stop .entry)) (length (now (image .entry))) (shrink address size) ⌝ }
     ensures { λ _. ⌜ now (image .exit) ≡ imageAfter s (now (used .entry)) (now (stop .entry)) pattern (now (image .entry)) (shrink address size) ⌝ }
 {
     if image.len() as u64 != s.length {
@@ -100,7 +100,7 @@ pub fn shrink(
     r
 }
 
-// All blocks go, and nothing is filled in them.
+// Removes all blocks, and fills nothing.
 pub fn hard_reset(
     s: State,
     used: &mut [u32],
@@ -108,7 +108,7 @@ pub fn hard_reset(
     image: &mut [u8],
     pattern: u32,
 ) -> Outcome
-    ensures { λ r. ⌜ turn (r .answer) (r .state) (now (used .exit)) (now (stop .exit)) ≡ lentStep s (now (used .entry)) (now (stop .entry)) (length (now (image .entry))) hardReset ⌝ }
+    ensures { λ r. ⌜ turnOf r (now (used .exit)) (now (stop .exit)) ≡ lentStep s (now (used .entry)) (now (stop .entry)) (length (now (image .entry))) hardReset ⌝ }
     ensures { λ _. ⌜ now (image .exit) ≡ imageAfter s (now (used .entry)) (now (stop .entry)) pattern (now (image .entry)) hardReset ⌝ }
 {
     if image.len() as u64 != s.length {
@@ -117,7 +117,7 @@ pub fn hard_reset(
     reset::hard_reset(s, used, stop)
 }
 
-// Each pool keeps its oldest block, emptied, and all of its bytes are filled.
+// Removes all blocks but each pool's oldest, which it empties and fills.
 pub fn soft_reset(
     s: State,
     used: &mut [u32],
@@ -125,7 +125,7 @@ pub fn soft_reset(
     image: &mut [u8],
     pattern: u32,
 ) -> Outcome
-    ensures { λ r. ⌜ turn (r .answer) (r .state) (now (used .exit)) (now (stop .exit)) ≡ lentStep s (now (used .entry)) (now (stop .entry)) (length (now (image .entry))) softReset ⌝ }
+    ensures { λ r. ⌜ turnOf r (now (used .exit)) (now (stop .exit)) ≡ lentStep s (now (used .entry)) (now (stop .entry)) (length (now (image .entry))) softReset ⌝ }
     ensures { λ _. ⌜ now (image .exit) ≡ imageAfter s (now (used .entry)) (now (stop .entry)) pattern (now (image .entry)) softReset ⌝ }
 {
     if image.len() as u64 != s.length {

@@ -1,10 +1,10 @@
-// Bytes of the arena's image, filled by a pattern.
+// Fills bytes of the arena's image with a pattern.
 ghost use mathlib.Core.Path.{_≡_};
 ghost use Prim.Native.Nat.{_+_, _≤_};
 ghost use lib.ListN.{length};
 ghost use Rattle.image.specs.Image.{patternByte, filledAt};
 
-// Byte `i` of the pattern, its lowest byte first, over and over.
+// Returns byte `i` of the pattern repeated, lowest byte first.
 fn pattern_byte(pattern: u32, i: usize) -> u8
     ensures { λ r. ⌜ r ≡ patternByte pattern i ⌝ }
 {
@@ -21,7 +21,7 @@ fn pattern_byte(pattern: u32, i: usize) -> u8
     (pattern / 16777216 % 256) as u8
 }
 
-// `n` bytes from a place on. No other byte is written.
+// Fills `n` bytes from index `at` on, and writes no other byte.
 pub fn fill_pattern(image: &mut [u8], at: usize, n: usize, pattern: u32)
     requires { ⌜ at + n ≤ length (now image) ⌝ }
     ensures { λ _. ⌜ now (image .exit) ≡ filledAt (now (image .entry)) at n pattern ⌝ }

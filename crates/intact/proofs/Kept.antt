@@ -14,15 +14,14 @@ use Rattle.state.specs.declared.Refusal.{Refusal}
 use Rattle.state.specs.declared.Answer.{Answer}
 use Rattle.state.specs.declared.Answer.the-variants.{Granted, Released, Shrunk, Shown, Refused}
 use Rattle.machine.specs.Turn.{Turn, span}
-use Rattle.machine.specs.Alloc.{allocMarked}
+use Rattle.machine.specs.Alloc.{unitsFor, searchFor, allocMarked}
 use Rattle.machine.specs.Release.{releaseTurn}
 use Rattle.machine.specs.Span.{queryTurn}
 use Rattle.machine.specs.Reset.{resetTurn}
 use Rattle.machine.specs.Machine.{Call, create, alloc, release, shrink, query, softReset, hardReset, step}
-use Rattle.shape_kept.proofs.Cases.{Seeks, unitsFor, searchFor, search-count, create-cases, query-cases, reset-cases}
+use Rattle.machine.proofs.Cases.{Seeks, search-count, create-cases, query-cases, reset-cases, alloc-cases}
 use Rattle.ledger.specs.Ledger.{enter, strike, In}
 use Rattle.ledger.specs.Reached.{Reached}
-use Rattle.ledger.proofs.Alloc.{refused, hit, full, made as makes, goes, Ways}
 use Rattle.ledger.proofs.Reached.{Known, reached-known}
 use Rattle.demands.specs.Apart.{Apart}
 use Rattle.demands.specs.Alloc.{Made, Goes}
@@ -31,7 +30,7 @@ use Rattle.demands.proofs.Seen.{alloc-enters}
 use Rattle.demands.proofs.First.{alloc-goes}
 use Rattle.demands.proofs.Answers.{unknown, GivenBack, zero-address, no-block, no-span, struck, given-back, CutDown, too-many, shortened, cut-down}
 use Rattle.demands.proofs.Addresses.{release-strikes, shrink-to-none, query-shows}
-use Rattle.filling.specs.Unused.{made, freed, behind, cutOff, keptBytes, unused}
+use Rattle.filling.specs.Unused.{made, freed, tailOf, cutOff, keptBytes, unused}
 use Rattle.filling.specs.InArena.{Outside}
 use Rattle.filling.proofs.Unused.{made-one, made-none}
 use Rattle.intact.proofs.New.{made-beside}
@@ -83,25 +82,24 @@ module _ {s : State} {u t : List ℕ} {l : List Span} (r : Reached s u t l) (a z
       (⊎-elim (λ c. inl (omega (arith, c, y .1 .high))) (λ c. inr (omega (arith, c, y .1 .low))) b, tt)
 
   alloc-kept : (size : ℕ) → Alloc (step s u t (alloc size))
-  alloc-kept size = go (goes s u t size (known-state .sound .shape))
+  alloc-kept size =
+      alloc-cases (λ (x : Turn). step s u t (alloc size) ≡ x → Alloc (step s u t (alloc size))) s u t size
+      (λ why early cond turned. subst Alloc (sym turned) (no-block-made s refl))
+      (λ b q miss short turned. subst Alloc (sym turned) (no-block-made (searchFor s u b .state) (search-count s u b)))
+      (λ b j i q e turned.
+      subst Alloc (sym turned)
+      (λ m. no-block-made (allocMarked (searchFor s u b .state) u t j i (unitsFor s b) .state) (search-count s u b) (entered size _ (ap (λ (x : Turn). x .answer) turned) m)))
+      (λ b at slot q miss p turned m.
+      let is = ap (λ (x : Turn). x .answer) turned in
+      let old = entered size _ is (subst (λ (c : Answer). In a z (enter c l)) is m) in
+      same (made (s .count) (step s u t (alloc size) .state)) (into b q is old (alloc-goes r size b (q .is))) old)
+      refl
     where
-      go : Ways s u t size → Alloc (step s u t (alloc size))
-      go (refused c e turned) = subst Alloc (sym turned) (no-block-made s refl)
-      go (full b q e why turned) = subst Alloc (sym turned) (no-block-made (searchFor s u b .state) (search-count s u b))
-      go (hit b j i q e turned) =
-          subst Alloc (sym turned)
-          (λ m. no-block-made (allocMarked (searchFor s u b .state) u t j i (unitsFor s b) .state) (search-count s u b) (entered size _ (ap (λ (x : Turn). x .answer) turned) m))
-      go (makes b at slot q e p turned) =
-          λ m.
-          let is = ap (λ (x : Turn). x .answer) turned in
-          let old = entered size _ is (subst (λ (c : Answer). In a z (enter c l)) is m) in
-          same (made (s .count) (step s u t (alloc size) .state)) (into b q is old (alloc-goes r size b (q .is))) old
-        where
-          into : (b : ℕ) → Seeks s u t size b → {y : Span} → step s u t (alloc size) .answer ≡ Granted y → In a z l
-              → Goes s u (poolOf b (s .granularity) (s .poolcount)) (unitsOf b (s .granularity)) b (step s u t (alloc size)) → Outside k (made (s .count) (step s u t (alloc size) .state))
-          into b q is old (inl y) = none (step s u t (alloc size) .state) (y .count)
-          into b q is old (inr (f, inl y)) = new (poolOf b (s .granularity) (s .poolcount)) (unitsOf b (s .granularity)) b (step s u t (alloc size)) y old
-          into b q is old (inr (f, inr y)) = absurd (let z : _≡_ {A = ℕ} 0 1 = cc in omega arith)
+      into : (b : ℕ) → Seeks s u t size b → {y : Span} → step s u t (alloc size) .answer ≡ Granted y → In a z l
+          → Goes s u (poolOf b (s .granularity) (s .poolcount)) (unitsOf b (s .granularity)) b (step s u t (alloc size)) → Outside k (made (s .count) (step s u t (alloc size) .state))
+      into b q is old (inl y) = none (step s u t (alloc size) .state) (y .count)
+      into b q is old (inr (f, inl y)) = new (poolOf b (s .granularity) (s .poolcount)) (unitsOf b (s .granularity)) b (step s u t (alloc size)) y old
+      into b q is old (inr (f, inr y)) = absurd (let z : _≡_ {A = ℕ} 0 1 = cc in omega arith)
 
   -- ---- a release
   -- the entries after it are others
@@ -151,7 +149,7 @@ module _ {s : State} {u t : List ℕ} {l : List Span} (r : Reached s u t l) (a z
 
           cut : shown ≡ Shown (span b y) → P (Shrunk (span b kept))
           cut q =
-              subst (λ (c : Answer). In a z (span b kept ∷ strike b l) → Kept z z′ k (behind (span b kept) c)) (sym q)
+              subst (λ (c : Answer). In a z (span b kept ∷ strike b l) → Kept z z′ k (tailOf (span b kept) c)) (sym q)
               (λ m.
               ⊎-elim
               (λ f. (omega (arith, f .1, h, one-entry r a y z′ (subst (λ (c : ℕ). In c y l) (f .0) n) was), (inl (omega (arith, f .0, f .1)), tt)))
@@ -161,7 +159,7 @@ module _ {s : State} {u t : List ℕ} {l : List Span} (r : Reached s u t l) (a z
 
   reset-kept : (hard : Bool) → let x = resetTurn s u t hard in In a z (enter (x .answer) l) → Kept z z′ k (keptBytes (x .state) (x .answer))
   reset-kept hard =
-      reset-cases (λ (x : Turn). In a z (enter (x .answer) l) → Kept z z′ k (keptBytes (x .state) (x .answer))) s u t (λ why. same [] tt) hard (λ e m. absurd m) (λ e i m. absurd m)
+      reset-cases (λ (x : Turn). In a z (enter (x .answer) l) → Kept z z′ k (keptBytes (x .state) (x .answer))) s u t hard (λ bad. same [] tt) (λ e m. absurd m) (λ e i m. absurd m)
 
   -- ---- any call
   pub call-kept : (c : Call) → let x = step s u t c in In a z (enter (x .answer) l) → Kept z z′ k (unused s u t c x)
@@ -169,6 +167,6 @@ module _ {s : State} {u t : List ℕ} {l : List Span} (r : Reached s u t l) (a z
   call-kept (alloc size) = alloc-kept size
   call-kept (release b) = struck-kept freed (λ why. refl) (λ y. refl) b (step s u t (release b) .answer) refl
   call-kept (shrink b size) = shrink-kept b size
-  call-kept (query b) = query-cases (λ (x : Turn). In a z (enter (x .answer) l) → Kept z z′ k []) s u t (λ why. same [] tt) b (λ j i e h. same [] tt)
+  call-kept (query b) = query-cases (λ (x : Turn). In a z (enter (x .answer) l) → Kept z z′ k []) s u t b (λ why cond. same [] tt) (λ j i e h. same [] tt)
   call-kept softReset = reset-kept false
   call-kept hardReset = reset-kept true

@@ -1,1 +1,2 @@
-// No code: the bytes of a live span stay while calls go on (proofs/); what a reader must believe for it is in specs/ and in the crates unused, copying and ledger.
+// No code: proves that calls leave the bytes of a live span alone (proofs/). What a reader must believe for it is in specs/ and in the
+// crates filling and ledger.

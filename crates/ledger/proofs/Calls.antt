@@ -13,11 +13,11 @@ use Rattle.block.specs.declared.Block.{Block}
 use Rattle.block.specs.declared.Looked.the-variants.{Missed}
 use Rattle.block.specs.Marking.{marked, released, shrunk}
 use Rattle.block.specs.Search.{lookInto}
+use Rattle.block.proofs.LiesAs.{numbers-lie, marked-lies, released-lies, missed-lies}
 use Rattle.state.specs.declared.Span.{Span}
 use Rattle.machine.specs.Turn.{span}
 use Rattle.ledger.specs.Paint.{Piece, piece, strikePiece}
 use Rattle.ledger.proofs.SoundBlock.{mark-sound, release-sound, shrink-sound, tight-sound}
-use Rattle.ledger.proofs.Lies.{numbers-lie, marked-lies, released-lies, missed-lies}
 use Rattle.ledger.specs.Ledger.{In, strike}
 use Rattle.ledger.specs.Agrees.{within, viewOf, at, Agrees}
 use Rattle.ledger.proofs.View.{in-unit, view-new, view-other, view-strike, view-strike-other, in-view}

@@ -5,13 +5,12 @@ use mathlib.Core.Path.{_≡_, sym, subst}
 use native.Mathlib.Nat.{not-suc-le-zero}
 use native.Mathlib.Omega.{arith}
 use lib.ListN.{length}
+use Rattle.numbers.proofs.Bools.{by-bool, picked}
 use Rattle.numbers.proofs.Split.{by-eq}
 use Rattle.block.specs.declared.Block.{Block}
-use Rattle.sizes.proofs.Cases.{picked}
 use Rattle.state.specs.declared.Span.{Span}
 use Rattle.state.specs.Table.{sum}
 use Rattle.state.proofs.Tests.{sum-le, sum-same}
-use Rattle.shape.proofs.Bools.{by-bool}
 use Rattle.ledger.specs.Paint.{Piece, piece, units, InsideArea}
 use Rattle.ledger.specs.Agrees.{within, view, viewOf, at, Homes, Agrees}
 use Rattle.ledger.proofs.View.{view-lies}

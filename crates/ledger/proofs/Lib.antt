@@ -2,7 +2,6 @@ pub mod Pieces
 pub mod Paints
 pub mod Marking
 pub mod Pieced
-pub mod Lies
 pub mod SoundBlock
 pub mod Slots
 pub mod Stands
@@ -17,7 +16,6 @@ pub mod Cleared
 pub mod Search
 pub mod Finds
 pub mod Right
-pub mod Alloc
 pub mod Made
 pub mod Step
 pub mod Words

@@ -9,12 +9,13 @@ use lib.Dec.{eqb}
 use lib.ListN.{length}
 use borrow.Author.Tests.{eqb-true, eqb-false}
 use Rattle.numbers.specs.Pick.{pick}
-use Rattle.numbers.proofs.Split.{by-eq, not-both}
+use Rattle.numbers.proofs.Bools.{not-both}
+use Rattle.numbers.proofs.Split.{by-eq}
 use Rattle.slots.specs.Slots.{slotOf}
 use Rattle.block.specs.declared.Block.{Block}
 use Rattle.state.specs.declared.Span.{Span}
 use Rattle.state.specs.declared.Held.{Held}
-use Rattle.state.specs.declared.Held.the-variants.{NoSpan, NoStop, Units}
+use Rattle.state.specs.declared.Held.the-variants.{NoSpan, NoStop, Range}
 use Rattle.machine.specs.Span.{heldAt, heldOf}
 use Rattle.ledger.specs.Paint.{InPieces}
 use Rattle.ledger.proofs.Pieces.{in-units}
@@ -68,7 +69,7 @@ module _ (g w slots n : ℕ) (bs : List Block) (u t : List ℕ) (st : Stands g w
 
   -- what an answer at address a of block j says of the ledger
   abbrev pub Told : ℕ → ℕ → Held → Type 0
-  Told a j (Units i e) = (i < e) × (e ≤ at bs j .area) × (a ≡ at bs j .base + i * g) × In a ((e - i) * g) l × (e - i ≤ at bs j .used)
+  Told a j (Range i e) = (i < e) × (e ≤ at bs j .area) × (a ≡ at bs j .base + i * g) × In a ((e - i) * g) l × (e - i ≤ at bs j .used)
   Told a j NoStop = ⊥
   Told a j NoSpan = (z : ℕ) → In a z l → ⊥
 
@@ -90,10 +91,10 @@ module _ (g w slots n : ℕ) (bs : List Block) (u t : List ℕ) (st : Stands g w
     offset k q = omega arith
 
     by-unit : a ≡ b .base + i * g → (x : Held) → StandsAt (viewOf g b l) (b .area) i x → Told a j x
-    by-unit q (Units x k) o =
+    by-unit q (Range x k) o =
         let c = s .each j h in
         let m = view-in g (st .unit) b (st .whole j h) l i (k - i) (aligned g w slots n bs (length u) (length t) st j h l (s .homes)) (o .3) in
-        subst (λ (y : ℕ). Told a j (Units y k)) (sym (o .0))
+        subst (λ (y : ℕ). Told a j (Range y k)) (sym (o .0))
         (o .1, o .2, q, subst (λ (y : ℕ). In y ((k - i) * g) l) (sym q) m, omega (arith, in-units (viewOf g b l) i (k - i) (o .3), c .count))
     by-unit q NoStop o = o
     by-unit q NoSpan o = λ z mem.

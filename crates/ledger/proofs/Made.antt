@@ -13,6 +13,7 @@ use Rattle.slots.specs.Slots.{slotOf, fillSlot}
 use Rattle.slots.proofs.Laws.{slot-own, slot-other}
 use Rattle.block.specs.declared.Block.{Block}
 use Rattle.block.specs.Marking.{marked, fresh}
+use Rattle.block.proofs.LiesAs.{LiesAs, marked-lies}
 use Rattle.sizes.specs.declared.Pool.{Pool}
 use Rattle.state.specs.declared.State.{State}
 use Rattle.state.specs.declared.Span.{Span}
@@ -24,16 +25,15 @@ use Rattle.shape.proofs.Shaped.{shaped-is}
 use Rattle.shape_facts.proofs.Facts.{unit-g}
 use Rattle.shape_facts.proofs.Room.{slot-is}
 use Rattle.machine.specs.Turn.{Turn, span, unitOf, clearSlot}
-use Rattle.machine.specs.Alloc.{allocMade}
+use Rattle.machine.specs.Alloc.{newSize, allocMade}
+use Rattle.machine.proofs.Cases.{Places}
 use Rattle.shape_facts.specs.Ready.{Makeable}
 use Rattle.shape_facts.proofs.Made.{length-cleared}
 use Rattle.shape_facts.proofs.Pool.{new-ready}
 use Rattle.shape_facts.proofs.New.{makeable}
 use Rattle.ledger.specs.Paint.{Piece, piece, SoundBlock}
 use Rattle.ledger.proofs.SoundBlock.{fresh-sound}
-use Rattle.ledger.proofs.Lies.{Lies, marked-lies}
 use Rattle.shape_kept.specs.Sized.{Sized}
-use Rattle.shape_kept.proofs.Cases.{Places, newSize}
 use Rattle.shape_kept.proofs.After.{inserted-new, inserted-pool}
 use Rattle.shape_kept.proofs.Make.{make-good}
 use Rattle.ledger.specs.Ledger.{enter}
@@ -104,7 +104,7 @@ module _ (r : State) (u t : List ℕ) (l : List Span) (f : Shaped r (length u) (
   abbrev pub block : Block
   block = marked new 0 n
 
-  same : Lies block new
+  same : LiesAs block new
   same = marked-lies new 0 n
 
   pub made-new : blockAt (turned .state) (r .count) ≡ block
@@ -153,8 +153,8 @@ module _ (r : State) (u t : List ℕ) (l : List Span) (f : Shaped r (length u) (
 
   -- ---- where it stands
   -- at the place and in the slot that were found
-  pub made-lies : Lies (blockAt (turned .state) (r .count)) new
-  made-lies = subst (λ (b : Block). Lies b new) (sym made-new) (marked-lies new 0 n)
+  pub made-lies : LiesAs (blockAt (turned .state) (r .count)) new
+  made-lies = subst (λ (b : Block). LiesAs b new) (sym made-new) (marked-lies new 0 n)
 
   abbrev fm : Shaped (turned .state) (length u) (length t)
   fm = made-shaped

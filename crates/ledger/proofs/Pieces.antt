@@ -85,7 +85,7 @@ in-units [] s n i = absurd i
 in-units (x ∷ l) s n (inl e) = omega arith
 in-units (x ∷ l) s n (inr i) = omega (arith, in-units l s n i)
 
--- a unit that is holders is one of a piece of the list, and a unit that ends one is the last of one
+-- a unit that is held is one of a piece of the list, and a unit that ends one is the last of one
 pub held-in : (l : List Piece) (k : ℕ) → 0 < holders l k → (s : ℕ) × (n : ℕ) × InPieces s n l × (s ≤ k) × (k < s + n)
 unfolding holders
 held-in [] k h = absurd (omega arith)
@@ -100,7 +100,7 @@ ended-in (x ∷ l) k h =
     by-eq (x .start + x .len) (k + 1) (λ e. (x .start, x .len, inl (refl, refl), e))
     (λ ne. let r = ended-in l k (omega (arith, ends-not x k ne)) in (r .0, r .1, inr (r .2), r .3))
 
--- two pieces that have one unit are one piece, if it is not holders twice
+-- two pieces that have one unit are one piece, if it is not held twice
 pub one-holder : (l : List Piece) (k s n s′ n′ : ℕ) → holders l k < 2 → InPieces s n l → InPieces s′ n′ l → s ≤ k → k < s + n → s′ ≤ k → k < s′ + n′
     → (s ≡ s′) × (n ≡ n′)
 unfolding holders

@@ -1,4 +1,4 @@
--- What a call must leave, and the calls on a span that stands: query, release, shrink. Assumes nothing.
+-- What a call must leave; the calls on a span that stands: query, release, shrink; and an allocation in a block that stands. Assumes nothing.
 use Prim.Native.Nat.{ℕ, _+_, _-_, _*_, _≤_, _<_}
 use mathlib.Core.List.{List, [], _∷_}
 use mathlib.Core.Bool.{false, not, _||_}
@@ -9,24 +9,28 @@ use lib.Dec.{eqb}
 use lib.ListN.{length, set}
 use borrow.Author.Tests.{eqb-true, not-false}
 use Rattle.numbers.specs.Units.{bytesOf}
+use Rattle.numbers.proofs.Bools.{picked}
 use Rattle.numbers.proofs.Split.{by-eq}
+use Rattle.bits.specs.Bits.{bit}
 use Rattle.slots.specs.Slots.{slotOf, fillSlot}
 use Rattle.block.specs.declared.Block.{Block}
-use Rattle.block.specs.Marking.{released, shrunk}
-use Rattle.sizes.proofs.Cases.{picked}
+use Rattle.block.specs.Marking.{released, shrunk, marked}
+use Rattle.block.proofs.LiesAs.{numbers-lie, released-lies, marked-lies}
 use Rattle.state.specs.declared.State.{State}
 use Rattle.state.specs.declared.Span.{Span}
 use Rattle.state.specs.declared.Answer.{Answer}
 use Rattle.state.specs.declared.Answer.the-variants.{Released, Shrunk}
 use Rattle.state.specs.Table.{blockAt, poolAt, sum}
 use Rattle.state.specs.Change.{past, removed}
+use Rattle.shape.specs.Shaped.{Shaped}
 use Rattle.machine.specs.Turn.{Turn, turn, span, putPool, withLive, withCounts, unitOf, clearSlot}
+use Rattle.machine.specs.Alloc.{allocMarked}
 use Rattle.machine.specs.Release.{lessUsed, releaseUnits}
 use Rattle.machine.specs.Shrink.{shrinkTail}
+use Rattle.shape_facts.proofs.Facts.{unit-g, pool-3}
 use Rattle.ledger.specs.Paint.{Piece, piece, holders, enders, units, InPieces, strikePiece, SoundBlock}
 use Rattle.ledger.proofs.Pieces.{no-units}
 use Rattle.ledger.proofs.Paints.{struck-out}
-use Rattle.ledger.proofs.Lies.{numbers-lie, released-lies}
 use Rattle.shape_kept.specs.Sized.{Sized}
 use Rattle.shape_kept.proofs.Sums.{past-low}
 use Rattle.shape_kept.proofs.After.{removed-block}
@@ -36,10 +40,11 @@ use Rattle.ledger.specs.Ledger.{In, strike, enter}
 use Rattle.ledger.specs.Agrees.{within, viewOf, at, Agrees, Sound}
 use Rattle.ledger.proofs.View.{strike-head, strike-tail, in-unit, in-view, view-new, view-other, view-strike, view-strike-other}
 use Rattle.ledger.proofs.Table.{Stands, slot-room, homes-strike, one-block, aligned, set-stands, sound-moved}
-use Rattle.ledger.proofs.Calls.{release-agrees, shrink-agrees}
+use Rattle.ledger.proofs.Calls.{release-agrees, shrink-agrees, mark-agrees}
 use Rattle.ledger.proofs.Count.{live-units}
 use Rattle.ledger.proofs.Grow.{drop-agrees}
 use Rattle.ledger.proofs.Cleared.{zeros-clear, clear-own, clear-other}
+use Rattle.ledger.proofs.Search.{Ready}
 use Rattle.ledger.proofs.Finds.{shaped, stands, unit-is}
 
 -- The table and the maps agree with the ledger that the answer leaves, the live count is its length, and no more than the units in use. So the state
@@ -218,3 +223,19 @@ module _ (s : State) (u t : List ℕ) (l : List Span) (o : Sound s u t l) (z : S
             let few = shaped s u t l o (z .blocks) .head in
             subst (λ (c : Block). c .area * s .granularity ≡ c .size) (sym (removed-block after after-sized j k (omega (arith, few .count-slots, few .slots-high))))
             (freed-stands .whole (past j k) (past-low j k (s .count) q))
+
+-- ---- allocation
+-- a span marked in a block of r, which the search left
+module _ (r : State) (u t : List ℕ) (l : List Span) (p n : ℕ) (pos : 0 < n) (f : Shaped r (length u) (length t)) (rd : Ready u t l p n pos r) (live : r .live ≡ length l) where
+  pub mark-right : (j i : ℕ) → j < r .count → i + n ≤ blockAt r j .area → ((k : ℕ) → i ≤ k → k < i + n → bit (slotOf (r .w) (blockAt r j .slot) u) k ≡ 0)
+      → Right l (allocMarked r u t j i n)
+  mark-right j i h fits free =
+      let b = blockAt r j in
+      let st = rd .stands in
+      let unit = unit-g r (length u) (length t) f (b .pool) (pool-3 r (length u) (length t) f j h) in
+      let z = mark-agrees (r .granularity) (r .w) (r .slots) (r .count) (r .blocks) u t st l (rd .agrees) j h (rd .ends j h) i n pos fits free in
+      let w = set-stands (r .granularity) (r .w) (r .slots) (r .count) (r .blocks) (length u) (length t) st j h (marked b i (i + n)) (marked-lies b i (i + n)) in
+      right-of l (allocMarked r u t j i n) (st .unit) (w .whole)
+      (subst (λ (g : ℕ). Agrees (r .granularity) (r .w) (r .slots) (r .count) (set (r .blocks) j (marked b i (i + n))) (fillSlot (r .w) (b .slot) u i (i + n - i) 1)
+      (fillSlot (r .w) (b .slot) t (i + n - 1) 1 1) (span (b .base + i * g) (n * g) ∷ l)) (sym unit) z)
+      (omega (arith, live))

@@ -17,6 +17,7 @@ use Rattle.block.specs.declared.Looked.the-variants.{Found, Missed}
 use Rattle.block.specs.Search.{lookInto}
 use Rattle.block.specs.Window.{Windowed}
 use Rattle.block.proofs.Window.{look-found, look-missed}
+use Rattle.block.proofs.LiesAs.{missed-lies}
 use Rattle.state.specs.declared.State.{State}
 use Rattle.state.specs.declared.Span.{Span}
 use Rattle.state.specs.declared.Hit.{Hit}
@@ -24,11 +25,9 @@ use Rattle.state.specs.declared.Hit.the-variants.{At, Nowhere}
 use Rattle.state.specs.declared.Searched.{Searched}
 use Rattle.state.specs.Table.{zeroBlock, blockAt}
 use Rattle.state.specs.Shape.{inPool}
-use Rattle.state.specs.Change.{withTable}
 use Rattle.machine.specs.Turn.{putBlock}
 use Rattle.machine.specs.Alloc.{after, searchFrom, searchPool}
 use Rattle.ledger.proofs.SoundBlock.{sound-windowed}
-use Rattle.ledger.proofs.Lies.{missed-lies}
 use Rattle.ledger.specs.Agrees.{viewOf, Agrees}
 use Rattle.ledger.specs.First.{NoPlace, LowestPlace, FirstFrom}
 use Rattle.ledger.proofs.Table.{Stands, set-stands}
@@ -43,7 +42,6 @@ module _ (u t : List ℕ) (l : List Span) (p n : ℕ) (pos : 0 < n) where
 
   pub record Combed (s : State) (i : ℕ) (x : Searched) : Type 0 where
     pub ready : Ready (x .state)
-    pub only : x .state ≡ withTable s (s .count) (x .state .blocks) (s .order) (s .pools)
     pub first : FirstFrom s u p n i (x .hit)
 
   -- one block more in front
@@ -102,7 +100,6 @@ module _ (u t : List ℕ) (l : List Span) (p n : ℕ) (pos : 0 < n) where
     after-combed : (rest : State → Searched) → Rest rest (suc i) (s .count) → b .pool ≡ p → (x : Looked) → lookInto (s .w) b u n ≡ x → Combed s i (after s i rest x)
     after-combed rest ih e (Found k) z = record {
       ready = r;
-      only = refl;
       first = (omega arith, h, e, look-found (s .w) b u n windowed pos k .0 z, λ o a c f. absurd (omega arith));
     }
     after-combed rest ih e (Missed c) z =
@@ -110,13 +107,12 @@ module _ (u t : List ℕ) (l : List Span) (p n : ℕ) (pos : 0 < n) where
         let x = ih (putBlock s i c) refl (ready-put c z (m .1 .within)) in
         record {
           ready = x .ready;
-          only = x .only;
           first = first-more s i (λ f. m .0) (rest (putBlock s i c) .hit) (first-put s i c (rest (putBlock s i c) .hit) (x .first));
         }
 
   from-combed : (i k : ℕ) (s : State) → i + k ≡ s .count → Ready s → Combed s i (searchFrom u p n i k s)
   unfolding searchFrom
-  from-combed i zero s e r = record { ready = r; only = refl; first = λ o a b. absurd (omega arith) }
+  from-combed i zero s e r = record { ready = r; first = λ o a b. absurd (omega arith) }
   from-combed i (suc k) s e r = go (λ r c q. from-combed (suc i) k r (omega (arith, e, c)) q) (inPool s p i) refl
     where
       go : Rest (searchFrom u p n (suc i) k) (suc i) (s .count) → (c : Bool) → inPool s p i ≡ c
@@ -126,7 +122,7 @@ module _ (u t : List ℕ) (l : List Span) (p n : ℕ) (pos : 0 < n) where
           after-combed s i h r (searchFrom u p n (suc i) k) ih (eqb-true (blockAt s i .pool) p z) (lookInto (s .w) (blockAt s i) u n) refl
       go ih false z =
           let x = ih s refl r in
-          record { ready = x .ready; only = x .only; first = first-more s i (λ f. absurd (eqb-false (blockAt s i .pool) p z f)) (searchFrom u p n (suc i) k s .hit) (x .first) }
+          record { ready = x .ready; first = first-more s i (λ f. absurd (eqb-false (blockAt s i .pool) p z f)) (searchFrom u p n (suc i) k s .hit) (x .first) }
 
   pub search-combed : (s : State) → Ready s → Combed s 0 (searchPool s u p n)
   search-combed s r = from-combed 0 (s .count) s (omega arith) r

@@ -17,12 +17,12 @@ use Rattle.block.specs.Search.{lookInto}
 use Rattle.block.specs.Window.{Windowed}
 use Rattle.block.proofs.Window.{look-missed}
 use Rattle.block.proofs.Kept.{windowed-ready, marked-kept, released-kept, shrunk-kept}
+use Rattle.block.proofs.LiesAs.{marked-lies, released-lies, missed-lies}
 use Rattle.ledger.specs.Paint.{Piece, piece, units, Paints, InPieces, strikePiece, SoundBlock}
 use Rattle.ledger.proofs.Pieces.{no-units, in-inside}
 use Rattle.ledger.proofs.Paints.{in-used, struck-out}
 use Rattle.ledger.proofs.Marking.{no-pieces, mark-paints, release-paints, shrink-paints}
 use Rattle.ledger.proofs.Pieced.{used-units}
-use Rattle.ledger.proofs.Lies.{marked-lies, released-lies, missed-lies}
 
 -- ---- what a block's window promises, and what its pieces paint
 pub sound-windowed : (b : Block) (u t : List ℕ) (l : List Piece) → SoundBlock b u t l → b .area ≤ 32 * length u → b .end ≤ b .area → Windowed b u

@@ -2,39 +2,27 @@
 use Prim.Native.Nat.{ℕ, _+_, _-_, _≤_, _<_}
 use mathlib.Core.Bool.{Bool, true, false, _||_}
 use mathlib.Core.List.{List}
-use mathlib.Core.Logic.{_⊎_, inl, inr, ⊎-elim}
+use mathlib.Core.Logic.{⊎-elim}
 use mathlib.Core.Path.{_≡_, refl, sym, ap, subst, _∙_}
 use native.Mathlib.Omega.{arith}
 use lib.Dec.{eqb}
 use borrow.Author.Tests.{eq-eqb, ne-eqb, eqb-true}
-use Rattle.numbers.proofs.Split.{by-eq, not-both}
+use Rattle.numbers.proofs.Bools.{not-both, and-left, and-right, or-cases, or-left, or-right}
+use Rattle.numbers.proofs.Split.{by-eq}
 use Rattle.bits.specs.Bits.{bit}
 use Rattle.state.specs.declared.Found.the-variants.{At}
 use Rattle.state.specs.declared.Held.{Held}
-use Rattle.state.specs.declared.Held.the-variants.{NoSpan, NoStop, Units}
+use Rattle.state.specs.declared.Held.the-variants.{NoSpan, NoStop, Range}
 use Rattle.state.specs.Find.{leastFrom}
 use Rattle.state.proofs.Find.{least-is, least-unique}
-use Rattle.state.proofs.Tests.{and-left, and-right}
 use Rattle.machine.specs.Span.{starts, upTo, heldAt}
 use Rattle.ledger.specs.Paint.{Piece, Paints, InPieces}
 use Rattle.ledger.proofs.Pieces.{in-inside, held-in}
 use Rattle.ledger.proofs.Paints.{in-used, in-stop, in-last, before}
 
--- one of two tests passes
-or-left : (a b : Bool) → a ≡ true → a || b ≡ true
-or-left a b e = rw e
-
-or-right : (a b : Bool) → b ≡ true → a || b ≡ true
-or-right true b e = refl
-or-right false b e = e
-
-or-either : (a b : Bool) → a || b ≡ true → (a ≡ true) ⊎ (b ≡ true)
-or-either true b e = inl refl
-or-either false b e = inr e
-
 -- what an answer says of the pieces
 abbrev pub Stands : List Piece → ℕ → ℕ → Held → Type 0
-Stands l area i (Units x e) = (x ≡ i) × (i < e) × (e ≤ area) × InPieces i (e - i) l
+Stands l area i (Range x e) = (x ≡ i) × (i < e) × (e ≤ area) × InPieces i (e - i) l
 Stands l area i NoStop = ⊥
 Stands l area i NoSpan = (n : ℕ) → InPieces i n l → ⊥
 
@@ -59,9 +47,9 @@ module _ (l : List Piece) (area : ℕ) (u t : List ℕ) (p : Paints l area u t) 
       let v = in-used l area u t p s n (i - 1) m (omega (arith, ne)) (omega arith) in
       absurd
       (⊎-elim
-      (λ y. ⊎-elim (λ e. omega (arith, ne, eqb-true i 0 e)) (λ e. omega (arith, eqb-true (bit u (i - 1)) 0 e)) (or-either (eqb i 0) (eqb (bit u (i - 1)) 0) y))
+      (λ y. ⊎-elim (λ e. omega (arith, ne, eqb-true i 0 e)) (λ e. omega (arith, eqb-true (bit u (i - 1)) 0 e)) (or-cases (eqb i 0) (eqb (bit u (i - 1)) 0) y))
       (λ e. omega (arith, ne, in-last l area u t p s n (i - 1) m (omega (arith, ne)) (omega arith) (eqb-true (bit t (i - 1)) 1 e)))
-      (or-either (eqb i 0 || eqb (bit u (i - 1)) 0) (eqb (bit t (i - 1)) 1) (and-right (eqb (bit u i) 1) (eqb i 0 || eqb (bit u (i - 1)) 0 || eqb (bit t (i - 1)) 1) y))))
+      (or-cases (eqb i 0 || eqb (bit u (i - 1)) 0) (eqb (bit t (i - 1)) 1) (and-right (eqb (bit u i) 1) (eqb i 0 || eqb (bit u (i - 1)) 0 || eqb (bit t (i - 1)) 1) y))))
 
   pub starts-in : (i : ℕ) → starts u t i ≡ true → (n : ℕ) × InPieces i n l
   starts-in i y =
@@ -82,11 +70,11 @@ module _ (l : List Piece) (area : ℕ) (u t : List ℕ) (p : Paints l area u t) 
         before = λ j a b. ne-eqb (bit t j) 1 (λ e. omega (arith, in-last l area u t p i n j m a (omega arith) e));
       })
 
-  pub in-stands : (i n : ℕ) → InPieces i n l → heldAt u t area i ≡ Units i (i + n)
+  pub in-stands : (i n : ℕ) → InPieces i n l → heldAt u t area i ≡ Range i (i + n)
   in-stands i n m =
       let f = in-inside l area i n (p .inside) m in
       let e : i + n - 1 + 1 ≡ i + n = omega arith in
-      rw (in-starts i n m) (ap (upTo i) (stop-at i n m) ∙ ap (Units i) e)
+      rw (in-starts i n m) (ap (upTo i) (stop-at i n m) ∙ ap (Range i) e)
 
   pub stands : (i : ℕ) → Stands l area i (heldAt u t area i)
   stands i = go (starts u t i) refl
@@ -100,7 +88,7 @@ module _ (l : List Piece) (area : ℕ) (u t : List ℕ) (p : Paints l area u t) 
       go false y = rw y (λ n m. not-both (starts u t i) (in-starts i n m) y)
 
   -- ---- by the answer
-  pub units-stand : (i x e : ℕ) → heldAt u t area i ≡ Units x e → (x ≡ i) × (i < e) × (e ≤ area) × InPieces i (e - i) l
+  pub units-stand : (i x e : ℕ) → heldAt u t area i ≡ Range x e → (x ≡ i) × (i < e) × (e ≤ area) × InPieces i (e - i) l
   units-stand i x e h = subst (Stands l area i) h (stands i)
 
   pub stop-never-missing : (i : ℕ) → heldAt u t area i ≡ NoStop → ⊥

@@ -1,42 +1,40 @@
 -- Every call on a sound state leaves a sound one, with the ledger that its answer leaves. Assumes nothing.
-use Prim.Native.Nat.{ℕ, zero, suc, _+_, _-_, _*_, _≤_, _<_}
+use Prim.Native.Nat.{ℕ, zero, suc, _+_, _*_, _≤_, _<_}
 use mathlib.Core.List.{List, []}
 use mathlib.Core.Bool.{Bool, true, false}
-use mathlib.Core.Logic.{_⊎_, ⊎-elim}
+use mathlib.Core.Logic.{⊎-elim}
 use mathlib.Core.Path.{_≡_, refl, sym, ap, ap₂, subst, subst₂, _∙_}
 use native.Mathlib.Omega.{arith}
 use lib.ListN.{length}
 use borrow.Author.Tests.{le-leb}
 use Rattle.numbers.specs.Units.{unitsOf}
+use Rattle.numbers.proofs.Bools.{picked}
 use Rattle.numbers.proofs.Units.{units-hold}
-use Rattle.numbers.proofs.Split.{by-eq, by-le}
 use Rattle.runs.specs.Window.{FreeAt}
 use Rattle.slots.specs.Slots.{slotOf}
 use Rattle.sizes.proofs.Pools.{pool-below}
-use Rattle.sizes.proofs.Cases.{picked}
 use Rattle.state.specs.declared.State.{State}
 use Rattle.state.specs.declared.Span.{Span}
-use Rattle.state.specs.declared.Found.the-variants.{Nothing}
 use Rattle.state.specs.declared.Hit.the-variants.{At}
-use Rattle.state.specs.declared.Held.the-variants.{NoSpan}
 use Rattle.state.specs.declared.Refusal.{Refusal}
-use Rattle.state.specs.declared.Refusal.the-variants.{InvalidArgument, InvalidState, NoMapping}
+use Rattle.state.specs.declared.Refusal.the-variants.{InvalidArgument, NoMapping, BadShape}
 use Rattle.state.specs.declared.Answer.the-variants.{Shown, Shrunk, Reset, Refused}
 use Rattle.state.specs.Table.{blockAt, sum}
 use Rattle.shape.specs.Shaped.{Shaped}
 use Rattle.shape_facts.proofs.Search.{Left, Place}
 use Rattle.shape_facts.proofs.Cleared.{slots-room}
 use Rattle.shape_facts.proofs.Pool.{whole, units-kept}
-use Rattle.machine.specs.Turn.{turn, refuse, span}
+use Rattle.machine.specs.Turn.{turn, refuse, span, unitOf}
 use Rattle.machine.specs.Create.{Asked, slotsOf, granted}
-use Rattle.machine.specs.Alloc.{allocTurn, allocMarked, allocMade}
+use Rattle.machine.specs.Alloc.{poolFor, unitsFor, searchFor, newSize, allocTurn, allocMarked, allocMade}
 use Rattle.machine.specs.Span.{queryTurn}
 use Rattle.machine.specs.Release.{releaseTurn}
 use Rattle.machine.specs.Shrink.{shrinkTurn}
 use Rattle.machine.specs.Reset.{emptyTable, clearBlocks, oldest, keep, kept, resetTurn}
 use Rattle.machine.specs.Machine.{Call, create, alloc, release, shrink, query, softReset, hardReset, step}
+use Rattle.machine.proofs.Searched.{search-other}
+use Rattle.machine.proofs.Cases.{Seeks, Places, create-cases, query-cases, release-cases, shrink-cases, reset-cases, alloc-cases}
 use Rattle.shape_kept.specs.Sized.{Sized}
-use Rattle.shape_kept.proofs.Cases.{Seeks, Places, poolFor, unitsFor, searchFor, newSize, create-cases, reset-cases}
 use Rattle.shape_kept.proofs.Sized.{sized-search}
 use Rattle.shape_kept.proofs.Request.{seeks-some, seeks-ready, seeks-left}
 use Rattle.shape_kept.proofs.Soft.{kept-from}
@@ -47,9 +45,8 @@ use Rattle.ledger.specs.First.{FirstFrom}
 use Rattle.ledger.proofs.Table.{Stands, slot-room}
 use Rattle.ledger.proofs.Cleared.{zeros, zeros-clear, clear-either, created-zeros, emptied-agrees}
 use Rattle.ledger.proofs.Search.{Ready, Combed, search-combed}
-use Rattle.ledger.proofs.Finds.{Finds, nowhere, nothing, entry, finds, shaped, stands, query-at, query-held, query-entry, release-zero, release-at, release-held, release-entry, shrink-release, shrink-zero, shrink-at, shrink-held, shrink-units, units-more, units-same, units-less}
-use Rattle.ledger.proofs.Right.{Right, right-of, same-right, again-right, cut-right, free-right}
-use Rattle.ledger.proofs.Alloc.{Ways, refused, hit, full, made, goes, mark-right}
+use Rattle.ledger.proofs.Finds.{shaped, stands, unit-is, held-entry}
+use Rattle.ledger.proofs.Right.{Right, right-of, same-right, again-right, cut-right, free-right, mark-right}
 use Rattle.ledger.proofs.Made.{make-right}
 
 -- ---- what a soft reset leaves of the record
@@ -83,42 +80,29 @@ module _ (s : State) (u t : List ℕ) (l : List Span) (o : Sound s u t l) (z : S
 
   -- ---- query
   query-right : (a : ℕ) → Right l (queryTurn s u t a)
-  query-right a = go (finds s u t l o (z .blocks) a)
-    where
-      go : Finds s u t l a → Right l (queryTurn s u t a)
-      go (nowhere e none) = subst (Right l) (sym (query-at s u t l o (z .blocks) a Nothing e)) (refused-right InvalidArgument)
-      go (nothing j h e y none) = subst (Right l) (sym (query-held s u t l o (z .blocks) a j NoSpan e y)) (refused-right InvalidArgument)
-      go (entry j i k h e y some fits ea mem used) = subst (Right l) (sym (query-entry s u t l o (z .blocks) a j i k h e y)) (same-right s u t l o z (Shown (span a ((k - i) * s .granularity))) refl)
+  query-right a = query-cases (Right l) s u t a (λ why cond. refused-right why) (λ j i e k. same-right s u t l o z (Shown _) refl)
 
   -- ---- release
   release-right : (a : ℕ) → Right l (releaseTurn s u t a)
   release-right a =
-      by-eq a 0 (λ e. subst (Right l) (sym (release-zero s u t l o (z .blocks) a e)) (refused-right InvalidArgument)) (λ ne. go ne (finds s u t l o (z .blocks) a))
-    where
-      go : (a ≡ 0 → ⊥) → Finds s u t l a → Right l (releaseTurn s u t a)
-      go ne (nowhere e none) = subst (Right l) (sym (release-at s u t l o (z .blocks) a Nothing ne e)) (refused-right InvalidState)
-      go ne (nothing j h e y none) = subst (Right l) (sym (release-held s u t l o (z .blocks) a j NoSpan ne e y)) (refused-right InvalidArgument)
-      go ne (entry j i k h e y some fits ea mem used) =
-          subst (Right l) (sym (release-entry s u t l o (z .blocks) a j i k ne e y mem used)) (free-right s u t l o z a j i k h some fits ea mem)
+      release-cases (Right l) s u t a (λ why cond. refused-right why)
+      (λ j i e k.
+      let q = held-entry s u t l o (z .blocks) a j i e (k .holds) in
+      free-right s u t l o z a j i e (q .0) (q .1 .0) (q .1 .1) (q .1 .2) (q .1 .3))
 
   -- ---- shrink
   shrink-right : (a size : ℕ) → Right l (shrinkTurn s u t a size)
   shrink-right a size =
-      by-eq size 0 (λ e. subst (Right l) (sym (shrink-release s u t l o (z .blocks) a size e)) (release-right a))
-      (λ ns. by-eq a 0 (λ e. subst (Right l) (sym (shrink-zero s u t l o (z .blocks) a size ns e)) (refused-right InvalidArgument))
-      (λ ne. go ns ne (finds s u t l o (z .blocks) a)))
-    where
-      go : (size ≡ 0 → ⊥) → (a ≡ 0 → ⊥) → Finds s u t l a → Right l (shrinkTurn s u t a size)
-      go ns ne (nowhere e none) = subst (Right l) (sym (shrink-at s u t l o (z .blocks) a size Nothing ns ne e)) (refused-right InvalidArgument)
-      go ns ne (nothing j h e y none) = subst (Right l) (sym (shrink-held s u t l o (z .blocks) a size j NoSpan ns ne e y)) (refused-right InvalidArgument)
-      go ns ne (entry j i k h e y some fits ea mem used) =
-          let n = unitsOf size (s .granularity) in
-          let is = shrink-units s u t l o (z .blocks) a size j i k ns ne h e y used in
-          by-le n (k - i)
-          (λ p. by-eq n (k - i)
-          (λ q. subst (Right l) (sym (is ∙ units-same s u t l o (z .blocks) a j i k n h q ∙ ap (λ (m : ℕ). turn (Shrunk (span a (m * s .granularity))) s u t) q)) (again-right s u t l o z a j i k h some fits ea mem))
-          (λ nq. subst (Right l) (sym (is ∙ units-less s u t l o (z .blocks) a j i k n (omega (arith, nq)))) (cut-right s u t l o z a j i k h some fits ea mem n (units-some size (s .granularity) (st .unit) ns) (omega (arith, nq)))))
-          (λ p. subst (Right l) (sym (is ∙ units-more s u t l o (z .blocks) a j i k n p)) (refused-right InvalidState))
+      shrink-cases (Right l) s u t a size (λ why cond. refused-right why) (λ none. release-right a)
+      (λ j i e n k same.
+      let q = held-entry s u t l o (z .blocks) a j i e k in
+      subst (Right l) (sym (ap₂ (λ (m g : ℕ). turn (Shrunk (span a (m * g))) s u t) same (unit-is s u t l o (z .blocks) j (q .0))))
+      (again-right s u t l o z a j i e (q .0) (q .1 .0) (q .1 .1) (q .1 .2) (q .1 .3)))
+      (λ j i e n k.
+      let q = held-entry s u t l o (z .blocks) a j i e (k .holds) in
+      let pos : 0 < unitOf s (blockAt s j) = omega (arith, unit-is s u t l o (z .blocks) j (q .0), st .unit) in
+      cut-right s u t l o z a j i e (q .0) (q .1 .0) (q .1 .1) (q .1 .2) (q .1 .3) n
+      (omega (arith, k .units, units-some size (unitOf s (blockAt s j)) pos (λ x. omega (arith, k .asked, x)))) (k .less))
 
   -- ---- alloc
   pub search-ready : (p n : ℕ) (pos : 0 < n) → Ready u t l p n pos s
@@ -151,7 +135,7 @@ module _ (s : State) (u t : List ℕ) (l : List Span) (o : Sound s u t l) (z : S
         let q = subst (Place u (length t) p n pos r) e (left .place) in
         let d = subst (FirstFrom s u p n 0) e (combed .first) in
         let same : slotOf (s .w) (blockAt s j .slot) u ≡ slotOf (r .w) (blockAt r j .slot) u =
-        ap₂ (λ (x y : ℕ). slotOf x y u) (sym (ap (λ (x : State). x .w) (combed .only))) (sym (left .alike j .slot)) in
+        ap₂ (λ (x y : ℕ). slotOf x y u) (sym (ap (λ (x : State). x .w) (search-other s u p n))) (sym (left .alike j .lies .slot)) in
         mark-right r u t l p n pos (left .shaped) (combed .ready) live-r j i (q .0) (q .2 .high) (subst (λ (x : List ℕ). FreeAt x n i) same (d .3 .free))
 
     full-right : Right l (refuse NoMapping r u t)
@@ -163,19 +147,15 @@ module _ (s : State) (u t : List ℕ) (l : List Span) (o : Sound s u t l) (z : S
     made-right : (at slot : ℕ) → Places r p bytes at slot → Made at slot
     made-right at slot m =
         let a = seeks-ready s u t size bytes k in
-        let same : r .poolcount ≡ s .poolcount = ap (λ (x : State). x .poolcount) (combed .only) in
+        let same : r .poolcount ≡ s .poolcount = ap (λ (x : State). x .poolcount) (search-other s u p n) in
         make-right r u t l (left .shaped) (sized-search s z u p n) (combed .ready .stands) (combed .ready .agrees) live-r p n bytes at slot
         (omega (arith, same, pool-below bytes (s .granularity) (s .poolcount) (a .shaped .head .pools-listed))) pos (a .some) (a .most)
         (units-kept s r (left .pools) p p n n bytes refl refl (whole s (length u) (length t) bytes a)) m
 
   alloc-right : (size : ℕ) → Right l (allocTurn s u t size)
-  alloc-right size = go (goes s u t size (o .shape))
-    where
-      go : Ways s u t size → Right l (allocTurn s u t size)
-      go (refused k e q) = subst (Right l) (sym q) (refused-right _)
-      go (hit bytes j i k e q) = subst (Right l) (sym q) (hit-right size bytes k j i e)
-      go (full bytes k e why q) = subst (Right l) (sym q) (full-right size bytes k)
-      go (made bytes at slot k e m q) = subst (Right l) (sym q) (made-right size bytes k at slot m)
+  alloc-right size =
+      alloc-cases (Right l) s u t size (λ why early cond. refused-right why) (λ bytes k miss short. full-right size bytes k)
+      (λ bytes j i k e. hit-right size bytes k j i e) (λ bytes at slot k miss m. made-right size bytes k at slot m)
 
   -- ---- reset
   abbrev cu : List ℕ
@@ -225,7 +205,7 @@ module _ (s : State) (u t : List ℕ) (l : List Span) (o : Sound s u t l) (z : S
       }
 
   reset-right : (hard : Bool) → Right l (resetTurn s u t hard)
-  reset-right hard = reset-cases (Right l) s u t (λ why. refused-right why) hard (λ e. empty-right) (λ e i. kept-right)
+  reset-right hard = reset-cases (Right l) s u t hard (λ bad. refused-right BadShape) (λ e. empty-right) (λ e i. kept-right)
 
 -- ---- create, whatever was before
 pub created-right : (a : Asked) (u t : List ℕ) (l : List Span) → Right l (granted a (slotsOf (a .w) (length u) (length t)) u t)

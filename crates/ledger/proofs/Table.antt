@@ -8,16 +8,17 @@ use native.Mathlib.Nat.{mul-le-mul-right}
 use native.Mathlib.Omega.{arith}
 use lib.ListN.{length, set, length-set}
 use lib.Seq.{getD-set-same, getD-set-other}
-use Rattle.numbers.proofs.Split.{by-eq, by-le, not-both}
+use Rattle.numbers.proofs.Bools.{not-both}
+use Rattle.numbers.proofs.Split.{by-eq, by-le}
 use Rattle.slots.specs.Slots.{slotOf, putSlot}
 use Rattle.slots.proofs.Laws.{slot-own, slot-other}
 use Rattle.block.specs.declared.Block.{Block}
+use Rattle.block.proofs.LiesAs.{LiesAs as LiesAt}
 use Rattle.state.specs.declared.State.{State}
 use Rattle.state.specs.declared.Span.{Span}
 use Rattle.state.specs.Table.{zeroBlock, blockAt}
 use Rattle.shape.specs.Shaped.{Shaped}
 use Rattle.ledger.specs.Paint.{Piece, SoundBlock}
-use Rattle.ledger.proofs.Lies.{Lies as LiesAt}
 use Rattle.ledger.specs.Ledger.{In, strike}
 use Rattle.ledger.specs.Agrees.{within, viewOf, Lies, at, Homes, Clear, Agrees}
 use Rattle.ledger.proofs.View.{within-false, within-range, lies-in, Aligned, view-same, lies-same, strike-head, strike-tail}

@@ -8,11 +8,10 @@ use native.Mathlib.Nat.{mul-lt-mul-of-pos-right, eq-of-mul-eq-mul-right, add-sub
 use native.Mathlib.Omega.{arith}
 use lib.Dec.{leb, ltb}
 use borrow.Author.Tests.{lt-ltb, le-ltb, le-leb, lt-leb, eq-eqb, ne-eqb, leb-true, ltb-true}
-use Rattle.numbers.proofs.Split.{by-eq, not-both}
+use Rattle.numbers.proofs.Bools.{not-both, by-bool, and-left, and-right, and-both, and-fails-left, and-fails-right}
+use Rattle.numbers.proofs.Split.{by-eq}
 use Rattle.block.specs.declared.Block.{Block}
 use Rattle.state.specs.declared.Span.{Span}
-use Rattle.state.proofs.Tests.{and-left, and-right, and-both, and-fails-left, and-fails-right}
-use Rattle.shape.proofs.Bools.{by-bool}
 use Rattle.machine.specs.Turn.{span}
 use Rattle.ledger.specs.Paint.{Piece, piece, InPieces, strikePiece}
 use Rattle.ledger.specs.Ledger.{In, strike}

@@ -19,11 +19,11 @@ use Rattle.state.specs.Table.{blockAt, poolAt}
 use Rattle.state.specs.Change.{inserted}
 use Rattle.machine.specs.Turn.{Turn, withLive, clearSlot}
 use Rattle.machine.specs.Create.{Asked, slotsOf, granted}
-use Rattle.machine.specs.Alloc.{allocMarked, allocMade}
+use Rattle.machine.specs.Alloc.{poolFor, unitsFor, searchFor, newSize, allocMarked, allocMade}
 use Rattle.machine.specs.Release.{lessUsed, releaseUnits, releaseTurn}
 use Rattle.machine.specs.Reset.{clearBlocks}
 use Rattle.machine.specs.Machine.{Call, create, alloc, release, shrink, query, softReset, hardReset, step}
-use Rattle.shape_kept.proofs.Cases.{poolFor, unitsFor, searchFor, newSize, settle-cases, create-cases, query-cases, release-cases, shrink-cases, reset-cases, alloc-cases}
+use Rattle.machine.proofs.Cases.{settle-cases, create-cases, query-cases, release-cases, shrink-cases, reset-cases, alloc-cases}
 
 -- ---- lists of words
 words-append : (xs ys : List ℕ) → Words xs → Words ys → Words (xs ++ ys)
@@ -86,20 +86,20 @@ module _ (s : State) (u t : List ℕ) (p : Words u) (q : Words t) where
       (λ n g. (clear-words (s .w) (blockAt r j .slot) (m .used) v, clear-words (s .w) (blockAt r j .slot) (m .stop) y)) (λ n g h. (v, y))
 
   release-words : (a : ℕ) → Wordy (releaseTurn s u t a)
-  release-words a = release-cases Wordy s u t (λ why. (p, q)) a (λ j i e k. free-words a j i e)
+  release-words a = release-cases Wordy s u t a (λ why cond. (p, q)) (λ j i e k. free-words a j i e)
 
   pub step-words : (c : Call) → Wordy (step s u t c)
   step-words (create a) = create-cases Wordy s u t a (λ e. (p, q)) (λ e. created-words a u t p q)
   step-words (alloc size) =
-      alloc-cases Wordy s u t (λ why. (p, q)) size (λ bytes k. (p, q)) (λ bytes j i k e. mark-words (searchFor s u bytes .state) u t p q j i (unitsFor s bytes))
-      (λ bytes at slot k m. make-words (searchFor s u bytes .state) u t p q (poolFor s bytes) (unitsFor s bytes) (newSize (searchFor s u bytes .state) (poolFor s bytes) bytes) at slot)
+      alloc-cases Wordy s u t size (λ why early cond. (p, q)) (λ bytes k miss short. (p, q)) (λ bytes j i k e. mark-words (searchFor s u bytes .state) u t p q j i (unitsFor s bytes))
+      (λ bytes at slot k miss m. make-words (searchFor s u bytes .state) u t p q (poolFor s bytes) (unitsFor s bytes) (newSize (searchFor s u bytes .state) (poolFor s bytes) bytes) at slot)
   step-words (release a) = release-words a
   step-words (shrink a size) =
-      shrink-cases Wordy s u t (λ why. (p, q)) a size (release-words a) (λ j i e n k same. (p, q))
+      shrink-cases Wordy s u t a size (λ why cond. (p, q)) (λ none. release-words a) (λ j i e n k same. (p, q))
       (λ j i e n k. (
         fill-words (s .w) (blockAt s j .slot) u (i + n) (e - (i + n)) 0 (lit< tt) p,
         fill-words (s .w) (blockAt s j .slot) (fillSlot (s .w) (blockAt s j .slot) t (e - 1) 1 0) (i + n - 1) 1 1 (lit< tt) (fill-words (s .w) (blockAt s j .slot) t (e - 1) 1 0 (lit< tt) q),
       ))
-  step-words (query a) = query-cases Wordy s u t (λ why. (p, q)) a (λ j i e k. (p, q))
-  step-words softReset = reset-cases Wordy s u t (λ why. (p, q)) false (λ e. (blocks-words s (s .count) u p, blocks-words s (s .count) t q)) (λ e i. (blocks-words s (s .count) u p, blocks-words s (s .count) t q))
-  step-words hardReset = reset-cases Wordy s u t (λ why. (p, q)) true (λ e. (blocks-words s (s .count) u p, blocks-words s (s .count) t q)) (λ e i. (blocks-words s (s .count) u p, blocks-words s (s .count) t q))
+  step-words (query a) = query-cases Wordy s u t a (λ why cond. (p, q)) (λ j i e k. (p, q))
+  step-words softReset = reset-cases Wordy s u t false (λ bad. (p, q)) (λ e. (blocks-words s (s .count) u p, blocks-words s (s .count) t q)) (λ e i. (blocks-words s (s .count) u p, blocks-words s (s .count) t q))
+  step-words hardReset = reset-cases Wordy s u t true (λ bad. (p, q)) (λ e. (blocks-words s (s .count) u p, blocks-words s (s .count) t q)) (λ e i. (blocks-words s (s .count) u p, blocks-words s (s .count) t q))

@@ -10,7 +10,7 @@ use Rattle.machine.specs.Create.{Asked, createTurn}
 use Rattle.machine.specs.Machine.{Call, step}
 use Rattle.ledger.specs.Ledger.{enter}
 
--- any call, also one that is refused and a later creation, is handed what the last left
+-- each call gets what the one before it left; also a call that is refused, and a later creation
 pub data Reached : State → List ℕ → List ℕ → List Span → Type 0 where
   created : (a : Asked) (u t : List ℕ) → Words u → Words t → (size g pools : ℕ) → createTurn a u t .answer ≡ Created size g pools
       → Reached (createTurn a u t .state) (createTurn a u t .used) (createTurn a u t .stop) []

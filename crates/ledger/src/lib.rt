@@ -1,2 +1,2 @@
-// No code: what the spans of one block paint on its two maps, the ledger over the machine, as definitions (specs/), and that every state that calls reach agrees
-// with it (proofs/).
+// No code: defines the ledger of live spans and what a block's spans paint on its two maps (specs/), and proves that every state that
+// calls reach agrees with it (proofs/).

@@ -26,10 +26,10 @@ endLine s = line ended (s .live ∷ s .count ∷ usedUnits s ∷ [])
 unfoldable pub badLine : ℕ → List ℕ
 badLine offset = line bad (offset ∷ [])
 
--- where nothing is left, `end`; otherwise what is left starts with a cut or a wrong record: `bad`, with its offset
+-- `end` if nothing is left; otherwise what is left starts with a cut or a wrong record: `bad`, with its offset
 abbrev pub lastLine : State → ℕ → ℕ → List ℕ
 lastLine s offset left = pick (eqb left 0) (endLine s) (badLine offset)
 
--- the last line at the front of the lent bytes, where they have the room of a line
+-- the last line is at the front of the lent bytes, if they have room for a line; otherwise nothing is written
 abbrev pub Finishes : State → ℕ → ℕ → List ℕ → List ℕ → ℕ → Type 0
 Finishes s offset left before after written = Puts before 0 (pick (ltb (length before) 80) [] (lastLine s offset left)) after written

@@ -1,4 +1,5 @@
-// Document 01's lines, written into lent bytes from an index on: an answer's line, and the last line of a trace. Each function returns the index after what it wrote.
+// Writes document 01's lines into lent bytes from an index on: an answer's line, and the last line of a trace. Each function returns the
+// index after what it wrote.
 use state::Answer;
 use state::Refusal;
 use state::Span;
@@ -33,7 +34,7 @@ fn put_span(out: &mut [u8], at: usize, word: &[u8], x: Span) -> usize
     text::put_line2(out, at, word, x.address, x.size)
 }
 
-// What a call answered.
+// Writes an answer's line.
 pub fn put_answer(out: &mut [u8], at: usize, answer: Answer) -> usize
     requires { ⌜ at + 80 ≤ length (now out) ⌝ }
     ensures { λ r. ⌜ Puts (now (out .entry)) at (answerLine answer) (now (out .exit)) r ⌝ }
@@ -56,7 +57,7 @@ pub fn put_answer(out: &mut [u8], at: usize, answer: Answer) -> usize
     }
 }
 
-// A granted query is written as an allocation is.
+// Writes a granted span: a query's line is like an allocation's.
 fn put_granted(out: &mut [u8], at: usize, x: Span) -> usize
     requires { ⌜ at + 80 ≤ length (now out) ⌝ }
     ensures { λ r. ⌜ Puts (now (out .entry)) at (line span (x .address ∷ x .size ∷ [])) (now (out .exit)) r ⌝ }
@@ -75,7 +76,7 @@ fn used_units(s: State) -> u64
     a.used as u64 + b.used as u64 + c.used as u64
 }
 
-// The last line of a trace whose records are all good.
+// Writes the last line of a trace whose records are all good.
 fn put_end(out: &mut [u8], at: usize, s: State) -> usize
     requires { ⌜ at + 80 ≤ length (now out) ⌝ }
     ensures { λ r. ⌜ Puts (now (out .entry)) at (endLine s) (now (out .exit)) r ⌝ }
@@ -84,7 +85,7 @@ fn put_end(out: &mut [u8], at: usize, s: State) -> usize
     text::put_line3(out, at, b"end", s.live, s.count as u64, units)
 }
 
-// The last line of a trace with a bad record at an offset.
+// Writes the last line of a trace with a bad record at `offset`.
 fn put_bad(out: &mut [u8], at: usize, offset: u64) -> usize
     requires { ⌜ at + 80 ≤ length (now out) ⌝ }
     ensures { λ r. ⌜ Puts (now (out .entry)) at (badLine offset) (now (out .exit)) r ⌝ }
@@ -92,7 +93,8 @@ fn put_bad(out: &mut [u8], at: usize, offset: u64) -> usize
     text::put_line1(out, at, b"bad", offset)
 }
 
-// The last line, where `offset` bytes were taken and `left` bytes stay that are no whole good record. Without the room for a line nothing is written.
+// Writes the last line after `offset` bytes were played and `left` bytes remain that are no whole good record. If `out` has no room for a
+// line, it writes nothing.
 pub fn finish(s: State, offset: u64, left: usize, out: &mut [u8]) -> usize
     ensures { λ r. ⌜ Finishes s offset left (now (out .entry)) (now (out .exit)) r ⌝ }
     ensures { λ r. ⌜ r ≤ length (now (out .entry)) ⌝ }

@@ -1,4 +1,8 @@
 pub mod T1
-pub mod Refusals
 pub mod One
 pub mod Search
+pub mod Searched
+pub mod Hits
+pub mod Look
+pub mod Cases
+pub mod Refusals

@@ -1,11 +1,12 @@
 -- Document 01, Numbers and creation. Assumes nothing.
 use Prim.Native.Nat.{ℕ, _*_, _/_, _%_, min}
 use mathlib.Core.Bool.{Bool, not}
-use mathlib.Core.List.{List, [], _∷_, _++_}
+use mathlib.Core.List.{[], _∷_, _++_}
 use lib.Dec.{leb, eqb}
 use lib.ListN.{length, drop, replicate}
+use Rattle.numbers.specs.Names.{Map}
 use Rattle.numbers.specs.Pick.{pick}
-use Rattle.sizes.specs.Limits.{granularityInForce, baseSizeInForce}
+use Rattle.sizes.specs.Limits.{granularityInForce, baseSizeInForce, maxSlotWords, slotLimit}
 use Rattle.sizes.specs.Pools.{freshPool}
 use Rattle.state.specs.declared.State.{State}
 use Rattle.state.specs.declared.Refusal.the-variants.{InvalidArgument}
@@ -31,12 +32,12 @@ immediateAsked flags = not (eqb (flags / 2 % 2) 0)
 
 -- the smaller of 64 and the whole slots of W in the shorter slice
 abbrev pub slotsOf : ℕ → ℕ → ℕ → ℕ
-slotsOf w usedWords stopWords = min 64 (min usedWords stopWords / w)
+slotsOf w usedWords stopWords = min slotLimit (min usedWords stopWords / w)
 
 -- W from 1 to 16,384, a slot at least, and the arena by its rules
 abbrev pub grantable : Asked → ℕ → ℕ → Bool
 grantable a usedWords stopWords =
-    every (leb 1 (a .w) ∷ leb (a .w) 16384 ∷ leb 1 (slotsOf (a .w) usedWords stopWords) ∷ arenaOk (a .arena) (a .length) ∷ [])
+    every (leb 1 (a .w) ∷ leb (a .w) maxSlotWords ∷ leb 1 (slotsOf (a .w) usedWords stopWords) ∷ arenaOk (a .arena) (a .length) ∷ [])
 
 abbrev pub freshState : Asked → ℕ → State
 freshState a slots = record {
@@ -50,21 +51,21 @@ freshState a slots = record {
   length = a .length;
   live = 0;
   count = 0;
-  blocks = replicate 64 zeroBlock;
-  order = replicate 64 0;
+  blocks = replicate slotLimit zeroBlock;
+  order = replicate slotLimit 0;
   pools = replicate 3 (freshPool (granularityInForce (a .granularity)));
 }
 
 -- the first n words cleared, no later ones
-abbrev pub cleared : ℕ → List ℕ → List ℕ
+abbrev pub cleared : ℕ → Map → Map
 cleared n ws = replicate n 0 ++ drop n ws
 
-abbrev pub granted : Asked → ℕ → List ℕ → List ℕ → Turn
+abbrev pub granted : Asked → ℕ → Map → Map → Turn
 granted a slots u t =
     turn (Created (baseSizeInForce (a .size)) (granularityInForce (a .granularity)) (poolsAsked (a .flags))) (freshState a slots) (cleared (slots * a .w) u)
     (cleared (slots * a .w) t)
 
 -- the call itself: refused, it hands back a record of zeros, with nothing written
-unfoldable pub createTurn : Asked → List ℕ → List ℕ → Turn
+unfoldable pub createTurn : Asked → Map → Map → Turn
 createTurn a u t =
     pick (grantable a (length u) (length t)) (granted a (slotsOf (a .w) (length u) (length t)) u t) (refuse InvalidArgument zeroState u t)

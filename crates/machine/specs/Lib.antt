@@ -7,3 +7,4 @@ pub mod Shrink
 pub mod Reset
 pub mod Machine
 pub mod Refusals
+pub mod When

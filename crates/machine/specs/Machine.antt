@@ -1,7 +1,7 @@
 -- The machine: a call, the record and the two maps give an answer, a record and the two maps. Assumes nothing.
 use Prim.Native.Nat.{ℕ}
 use mathlib.Core.Bool.{true, false}
-use mathlib.Core.List.{List}
+use Rattle.numbers.specs.Names.{Map}
 use Rattle.state.specs.declared.State.{State}
 use Rattle.state.specs.declared.Answer.{Answer}
 use Rattle.state.specs.declared.Answer.the-variants.{Created, Granted, Released, Shrunk, Shown, Reset, Refused}
@@ -22,7 +22,7 @@ pub data Call : Type 0 where
   softReset : Call
   hardReset : Call
 
--- a refused creation isn't a state reached: the machine goes on with the record before it
+-- a refused creation reaches no state: the machine goes on with the record before it
 abbrev pub orBefore : State → Turn → Answer → Turn
 orBefore s t (Refused r) = turn (t .answer) s (t .used) (t .stop)
 orBefore s t (Created size g pools) = t
@@ -32,7 +32,7 @@ orBefore s t (Shrunk x) = t
 orBefore s t (Shown x) = t
 orBefore s t Reset = t
 
-abbrev pub step : State → List ℕ → List ℕ → Call → Turn
+abbrev pub step : State → Map → Map → Call → Turn
 step s u t (create a) = orBefore s (createTurn a u t) (createTurn a u t .answer)
 step s u t (alloc size) = allocTurn s u t size
 step s u t (release a) = releaseTurn s u t a

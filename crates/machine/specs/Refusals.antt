@@ -1,26 +1,22 @@
 -- Document 01, Refusal numbers: what a refusal changes. Assumes nothing.
-use mathlib.Core.List.{List}
 use mathlib.Core.Path.{_≡_}
-use Prim.Native.Nat.{ℕ}
+use Rattle.numbers.specs.Names.{Map}
 use Rattle.sizes.specs.declared.Rounded.{Rounded}
 use Rattle.sizes.specs.declared.Rounded.the-variants.{To, Refused as unroundable}
-use Rattle.sizes.specs.Pools.{poolOf}
 use Rattle.sizes.specs.Sizes.{rounded}
-use Rattle.numbers.specs.Units.{unitsOf}
 use Rattle.state.specs.declared.State.{State}
 use Rattle.state.specs.declared.Answer.{Answer}
 use Rattle.state.specs.declared.Answer.the-variants.{Created, Granted, Released, Shrunk, Shown, Reset, Refused}
 use Rattle.state.specs.declared.Refusal.the-variants.{InvalidArgument, TooLarge, InvalidState, NoMapping, BadShape, Damaged}
-use Rattle.state.specs.Table.{poolAt}
 use Rattle.machine.specs.Turn.{Turn}
-use Rattle.machine.specs.Alloc.{searchPool}
+use Rattle.machine.specs.Alloc.{searchFor}
 use Rattle.machine.specs.Machine.{Call, create, alloc, release, shrink, query, softReset, hardReset}
 
-abbrev pub Is : State → List ℕ → List ℕ → Turn → Type 0
+abbrev pub Is : State → Map → Map → Turn → Type 0
 Is s u t x = (x .state ≡ s) × (x .used ≡ u) × (x .stop ≡ t)
 
--- a refusal changes nothing, but for refusal 4: the record is then the one that the search left
-abbrev pub LeftByRefusal : State → State → List ℕ → List ℕ → Turn → Answer → Type 0
+-- a refusal changes nothing, except refusal 4, which keeps the record that the search left
+abbrev pub LeftByRefusal : State → State → Map → Map → Turn → Answer → Type 0
 LeftByRefusal s searched u t x (Refused NoMapping) = Is searched u t x
 LeftByRefusal s searched u t x (Refused InvalidArgument) = Is s u t x
 LeftByRefusal s searched u t x (Refused TooLarge) = Is s u t x
@@ -34,12 +30,12 @@ LeftByRefusal s searched u t x (Shrunk span) = Unit {0}
 LeftByRefusal s searched u t x (Shown span) = Unit {0}
 LeftByRefusal s searched u t x Reset = Unit {0}
 
--- the record with the blocks that were looked into for a size tightened
-abbrev pub searchedFor : State → List ℕ → Rounded → State
-searchedFor s u (To size) = searchPool s u (poolOf size (s .granularity) (s .poolcount)) (unitsOf size (poolAt s (poolOf size (s .granularity) (s .poolcount)) .granularity)) .state
+-- the record after the search for a size: the blocks that it looked into are tightened
+abbrev pub searchedFor : State → Map → Rounded → State
+searchedFor s u (To size) = searchFor s u size .state
 searchedFor s u (unroundable k) = s
 
-abbrev pub searchedBy : State → List ℕ → Call → State
+abbrev pub searchedBy : State → Map → Call → State
 searchedBy s u (alloc size) = searchedFor s u (rounded size (s .granularity))
 searchedBy s u (create a) = s
 searchedBy s u (release a) = s

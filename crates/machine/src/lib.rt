@@ -1,1 +1,1 @@
-// No code: the machine of document 01, as definitions (specs/) with their laws (proofs/).
+// No code: defines the machine of document 01 (specs/), and proves laws of it (proofs/).

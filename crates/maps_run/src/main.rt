@@ -1,5 +1,5 @@
-// Runs `bits`, `index`, `slots`, `units`, `runs`, `held` and `window` on vectors, over maps of a few words. `stdout` has what the Rust's functions
-// answer on single bits and ranges, and for the rest what a map kept bit by bit and a search unit by unit find.
+// Runs `bits`, `slots` and `runs` on vectors, over maps of a few words. For single bits and ranges, `stdout` has what the Rust's functions
+// answer; for the rest, what a map kept bit by bit and a search unit by unit find.
 ghost use mathlib.Core.Path.{_≡_};
 ghost use lib.ListN.{length};
 
@@ -16,7 +16,7 @@ fn word(w: u32) {
     number(w as u64);
 }
 
-// ` W0 W1 ..`, and the line's end
+// Writes ` W0 W1 ..` and the line's end.
 fn words(map: &[u32]) {
     let mut i: usize = 0;
     while i < map.len() {
@@ -43,13 +43,13 @@ fn pattern(p: usize) -> [u32; 3]
     [2147483648, 1, 2147483649]
 }
 
-// ` P I`
+// Writes ` P I`.
 fn place(p: usize, index: usize) {
     number(p as u64);
     number(index as u64);
 }
 
-// `fill P I C W0 W1 W2`, or `clear ..`, where the map has that many bits
+// Writes `fill P I C W0 W1 W2`, or `clear ..`, if the map has that many bits.
 fn range(p: usize, index: usize, count: usize, value: bool) {
     if index <= 96 {
         if count <= 96 - index {
@@ -104,7 +104,7 @@ fn ranges(p: usize) {
     counts(p, 95);
 }
 
-// `get P I B`
+// Writes `get P I B`.
 fn get(p: usize, index: usize) {
     if index < 96 {
         io::write_all(1, b"get");
@@ -119,7 +119,7 @@ fn get(p: usize, index: usize) {
     }
 }
 
-// `set P I W0 W1 W2`, or `unset ..`
+// Writes `set P I W0 W1 W2`, or `unset ..`.
 fn put(p: usize, index: usize, value: bool) {
     if index < 96 {
         let mut map = pattern(p);
@@ -134,7 +134,7 @@ fn put(p: usize, index: usize, value: bool) {
     }
 }
 
-// The first bit from `index` on that is `value`.
+// Writes the first bit from `index` on that is `value`.
 fn index_of(p: usize, index: usize, value: bool) {
     if index < 96 {
         let map = pattern(p);
@@ -142,7 +142,7 @@ fn index_of(p: usize, index: usize, value: bool) {
     }
 }
 
-// `first P I ONE ZERO`, behind the lines on that bit
+// Writes the lines on one bit, and then `first P I ONE ZERO`.
 fn single(p: usize, index: usize) {
     get(p, index);
     put(p, index, true);
@@ -170,7 +170,7 @@ fn singles(p: usize) {
 
 // ---- slots: a map of six words, three slots of two
 
-// `mark SLOT AT N W0 W1 W2 W3 W4 W5`, or `unmark ..`
+// Writes `mark SLOT AT N W0 W1 W2 W3 W4 W5`, or `unmark ..`.
 fn change(map: &mut [u32; 6], value: bool, slot: usize, at: usize, n: usize) {
     if slot < 3 {
         if at <= 64 {
@@ -191,7 +191,7 @@ fn change(map: &mut [u32; 6], value: bool, slot: usize, at: usize, n: usize) {
     }
 }
 
-// `slot SLOT W0 W1`
+// Writes `slot SLOT W0 W1`.
 fn part(map: &[u32; 6], slot: usize) {
     if slot < 3 {
         io::write_all(1, b"slot");
@@ -200,7 +200,7 @@ fn part(map: &[u32; 6], slot: usize) {
     }
 }
 
-// Marks and unmarks of a map that starts with every word `word`, and the slots' parts in the end.
+// Marks and unmarks units of a map whose words are all `word` at first, and then writes each slot.
 fn history(word: u32) {
     let mut map = [word; 6];
     change(&mut map, true, 0, 0, 1);
@@ -225,7 +225,7 @@ fn history(word: u32) {
 
 // ---- runs
 
-// The used units of a map, as ones.
+// Returns map number `p`: a one is a used unit.
 fn used(p: usize) -> [u32; 3]
     ensures { λ r. ⌜ 3 ≡ length r ⌝ }
 {
@@ -261,7 +261,7 @@ fn used(p: usize) -> [u32; 3]
     [0x9e37_79b9, 0x7f4a_7c15, 0xf39c_c060]
 }
 
-// ` P S E`
+// Writes ` P S E`.
 fn window(p: usize, start: usize, end: usize) {
     number(p as u64);
     number(start as u64);
@@ -287,7 +287,7 @@ fn found(answer: runs::Search) {
     line_end();
 }
 
-// `search P S E N at I`, or `tight FIRST LAST LONGEST`, or `full`
+// Writes `search P S E N`, and ` at I`, ` tight FIRST LAST LONGEST` or ` full`.
 fn search(p: usize, start: usize, end: usize, n: usize) {
     if start <= 96 {
         if end <= 96 {
@@ -308,7 +308,7 @@ fn run(start: usize, end: usize) {
     io::print_decimal(1, end as u64);
 }
 
-// The runs that a walk yields, whole, since no run of three words is as long as 97. It ends by its `fuel` if not by itself.
+// Writes the runs that a walk yields. None is cut, since no run of three words is as long as 97. `fuel` bounds the loop for the checker.
 fn walk(words: &[u32], start: usize, end: usize) {
     if words.len() == 3 {
         if start <= 96 {
@@ -335,7 +335,7 @@ fn walk(words: &[u32], start: usize, end: usize) {
     }
 }
 
-// `runs P S E` and ` s-e` for each run
+// Writes `runs P S E`, and ` s-e` for each run.
 fn walked(p: usize, start: usize, end: usize) {
     io::write_all(1, b"runs");
     window(p, start, end);

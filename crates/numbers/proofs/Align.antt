@@ -41,23 +41,23 @@ up-high x a h l =
     subst (λ (y : ℕ). without y (a - 1) < x + a) (sym (mod-eq-of-lt l))
     (omega (arith, without-is (x + (a - 1)) (a - 1) l (omega arith)))
 
-top-even : (j : ℕ) → j ≤ 64 → 2 ^ 64 % 2 ^ j ≡ 0
-top-even j k =
+top-whole : (j : ℕ) → j ≤ 64 → 2 ^ 64 % 2 ^ j ≡ 0
+top-whole j k =
     let s : 64 ≡ (64 - j) + j = omega arith in
     ap (λ (n : ℕ). 2 ^ n % 2 ^ j) s ∙ ap (λ (n : ℕ). n % 2 ^ j) (pow-add 2 (64 - j) j) ∙ mul-mod-left (2 ^ (64 - j)) (2 ^ j)
 
-mask-even : (a j : ℕ) → 0 < a → a ≤ 2 ^ 64 → j ≤ 64 → a % 2 ^ j ≡ 0 → (2 ^ 64 - 1 - (a - 1)) % 2 ^ j ≡ 0
-mask-even a j h l k e =
+mask-whole : (a j : ℕ) → 0 < a → a ≤ 2 ^ 64 → j ≤ 64 → a % 2 ^ j ≡ 0 → (2 ^ 64 - 1 - (a - 1)) % 2 ^ j ≡ 0
+mask-whole a j h l k e =
     let is : 2 ^ 64 - 1 - (a - 1) ≡ 2 ^ 64 - a = omega arith in
     ap (λ (c : ℕ). c % 2 ^ j) is
-    ∙ mod-eq-zero-of-dvd (2 ^ j) (dvd-sub (2 ^ j) (dvd-of-mod-eq-zero (2 ^ j) (top-even j k)) (dvd-of-mod-eq-zero (2 ^ j) e))
+    ∙ mod-eq-zero-of-dvd (2 ^ j) (dvd-sub (2 ^ j) (dvd-of-mod-eq-zero (2 ^ j) (top-whole j k)) (dvd-of-mod-eq-zero (2 ^ j) e))
 
 -- what divides the alignment, as a power of two, divides the answer: also where the sum wraps
 pub up-divides : (x a j : ℕ) → 0 < a → a ≤ 2 ^ 64 → j ≤ 64 → a % 2 ^ j ≡ 0 → alignUp x a % 2 ^ j ≡ 0
 up-divides x a j h l k e =
     let y = (x + (a - 1)) % 2 ^ 64 in
     and-mod y (2 ^ 64 - 1 - (a - 1)) j
-    ∙ ap (bitAnd (y % 2 ^ j)) (mask-even a j h l k e)
+    ∙ ap (bitAnd (y % 2 ^ j)) (mask-whole a j h l k e)
     ∙ and-zero-r (y % 2 ^ j)
 
 -- ---- at a power of two: a multiple, the last one that is not above y

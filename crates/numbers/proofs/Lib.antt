@@ -1,3 +1,4 @@
 pub mod Split
+pub mod Bools
 pub mod Align
 pub mod Units

@@ -25,8 +25,8 @@ units-le size unit n h =
     (λ l. omega (arith, i .0 l), λ l. i .1 (omega arith))
 
 -- the quotient, and one more where something is left over
-pub units-even : (size unit : ℕ) → 0 < unit → size % unit ≡ 0 → unitsOf size unit ≡ size / unit
-units-even size unit h e =
+pub units-whole : (size unit : ℕ) → 0 < unit → size % unit ≡ 0 → unitsOf size unit ≡ size / unit
+units-whole size unit h e =
     let w : size ≡ size / unit * unit = omega (arith, div-add-mod' size unit, e) in
     ap (λ (s : ℕ). unitsOf s unit) w ∙ units-exact (size / unit) unit h
 

@@ -1,5 +1,5 @@
--- Rounding by a bit mask, in 64 bits: the digits that alignment - 1 has go off. Where alignment is a power of two that is the multiple
--- below or above; document 01 also rounds by 786,432, where it is neither. Assumes nothing.
+-- Rounding by a bit mask, in 64 bits: it clears the digits that alignment - 1 has. If alignment is a power of two, that gives the multiple
+-- below or above; document 01 also rounds by 786,432, which gives neither. Assumes nothing.
 use Prim.Native.Nat.{ℕ, _+_, _-_, _%_, _^_}
 use lib.Bits.{bitAnd}
 

@@ -1,3 +1,4 @@
+pub mod Names
 pub mod Align
 pub mod Units
 pub mod Pick

@@ -1,5 +1,5 @@
-// Runs `numbers`, `sizes` and `limits` on vectors and on the edge figures that need no call. `stdout` has what the Rust's functions answer, for
-// units and bytes what plain arithmetic does, and for sizes what document 01 says, reckoned by plain arithmetic.
+// Runs `numbers` and `sizes` on vectors and on the edge figures that need no call. `stdout` has what the Rust's functions answer; for units
+// and bytes, what plain arithmetic gives; for sizes, what document 01's rules give by plain arithmetic.
 ghost use mathlib.Core.Path.{_≡_};
 ghost use Prim.Native.Nat.{_*_, _≤_, _<_, _^_};
 
@@ -12,7 +12,7 @@ fn line_end() {
     io::write_all(1, b"\n");
 }
 
-// `X A DOWN UP`
+// Writes `X A DOWN UP`.
 fn aligned(x: u64, alignment: u64) {
     if 0 < alignment {
         io::print_decimal(1, x);
@@ -42,7 +42,7 @@ fn bytes_of(n: u32, unit: u64) -> u64
     numbers::byte_size_from_area_size(n, unit)
 }
 
-// `bytes N UNIT SIZE`, of units of at most 1,024 bytes
+// Writes `bytes N UNIT SIZE`, if a unit has at most 1,024 bytes.
 fn bytes(n: u32, unit: u64) {
     if unit <= 1024 {
         io::write_all(1, b"bytes");
@@ -53,7 +53,7 @@ fn bytes(n: u32, unit: u64) {
     }
 }
 
-// `units SIZE UNIT N`, of units of at most 1,024 bytes and no more of them than 32 bits hold, and those units' bytes
+// Writes `units SIZE UNIT N` and those units' bytes, if a unit has at most 1,024 bytes and N fits 32 bits.
 fn units(size: u64, unit: u64) {
     if 0 < unit {
         if unit <= 1024 {
@@ -79,7 +79,7 @@ fn units_of(size: u64) {
     units(size, 1024);
 }
 
-// `granularity ASKED G`
+// Writes `granularity ASKED G`.
 fn granularity(asked: u32) {
     io::write_all(1, b"granularity");
     number(asked as u64);
@@ -87,7 +87,7 @@ fn granularity(asked: u32) {
     line_end();
 }
 
-// `base ASKED SIZE`
+// Writes `base ASKED SIZE`.
 fn base(asked: u32) {
     io::write_all(1, b"base");
     number(asked as u64);
@@ -95,7 +95,7 @@ fn base(asked: u32) {
     line_end();
 }
 
-// ` to SIZE`, or ` refused N`
+// Writes ` to SIZE`, or ` refused N`.
 fn answer(r: sizes::Rounded) {
     match r {
         sizes::Rounded::To(size) => {
@@ -109,7 +109,7 @@ fn answer(r: sizes::Rounded) {
     }
 }
 
-// `round SIZE G to ROUNDED`, or `round SIZE G refused N`
+// Writes `round SIZE G to ROUNDED`, or `round SIZE G refused N`.
 fn round(size: u64, granularity: u64) {
     if 0 < granularity {
         io::write_all(1, b"round");
@@ -126,7 +126,7 @@ fn rounds(size: u64) {
     round(size, 256);
 }
 
-// The pool of a size at granularity 64, where there are three, and where there is one.
+// A size's pool at granularity 64: out of three, and out of one.
 struct Pools {
     of_three: usize,
     of_one: usize,
@@ -141,7 +141,7 @@ fn pools_of(size: u64) -> Pools
     }
 }
 
-// `pool SIZE OF_THREE OF_ONE`
+// Writes `pool SIZE OF_THREE OF_ONE`.
 fn pool(size: u64) {
     if size < 4294967296 {
         io::write_all(1, b"pool");
@@ -153,7 +153,7 @@ fn pool(size: u64) {
     }
 }
 
-// Of every size up to 2,048 bytes, in steps of 64.
+// Writes the pools of the sizes up to 2,048 bytes, in steps of 64.
 fn every_pool() {
     let mut size: u64 = 64;
     while size <= 2048 {
@@ -162,7 +162,7 @@ fn every_pool() {
     }
 }
 
-// `ideal NEWEST REQUEST SIZE`
+// Writes `ideal NEWEST REQUEST SIZE`.
 fn ideal(newest: u64, size: u64) {
     if 0 < newest {
         if newest <= 134217728 {

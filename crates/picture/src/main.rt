@@ -1,14 +1,14 @@
-// Draws what a trace leaves: plays it as the trace program does, without its lines, and writes for each block, oldest first, its numbers and its units in rows of 64,
-// `#` where a span starts, `=` inside one, `.` where a unit is free. Rows that are all alike are counted.
+// Draws what a trace leaves: plays it as the trace program does, but writes no lines. For each block, oldest first, it writes the numbers
+// and the units in rows of 64: `#` where a span starts, `=` inside one, `.` where a unit is free. It only counts rows that are all alike.
 use block::Block;
 use feed::Feed;
 use state::State;
 
-const FREE: u8 = 46;
+const FREE: u8 = b'.';
 
-const START: u8 = 35;
+const START: u8 = b'#';
 
-const BODY: u8 = 61;
+const BODY: u8 = b'=';
 
 // ---- the trace
 
@@ -20,7 +20,7 @@ fn play_all(
     out: &mut [u8],
 ) -> Feed {
     let mut f = feed::start();
-    // nothing says that a file ends, so the turns count down from a number that no run uses up
+    // Bounds the loop for the checker: nothing proves that a file ends.
     let mut turns = u64::MAX;
     while 0 < turns && !f.done {
         f = feed::turn(file, f, used, stop, buffer, out);
@@ -31,13 +31,13 @@ fn play_all(
 
 // ---- units
 
-// The bit of a unit of the slot whose first word is `base`.
+// Reads a unit's bit in the slot whose first word is `base`.
 fn bit_at(words: &[u32], base: usize, unit: usize) -> bool {
     let word = show::word_at(words, std::num::wrapping_add_usize(base, unit / 32));
     word >> ((unit % 32) as u32) & 1 == 1
 }
 
-// How a unit is drawn: a span starts at a used unit that is the first, or behind a free one, or behind a stop bit.
+// Returns the mark of a unit. A span starts at a used unit that is the first, or follows a free unit or a stop bit.
 fn mark_of(used: &[u32], stop: &[u32], base: usize, unit: usize) -> u8 {
     if !bit_at(used, base, unit) {
         return FREE;
@@ -67,7 +67,7 @@ fn number(numbers: &[u64], at: usize) {
     }
 }
 
-// The text, with the next number in the place of each `@`.
+// Writes the text with the next number in the place of each `@`.
 fn form(text: &[u8], numbers: &[u64]) {
     let mut next: usize = 0;
     let mut i: usize = 0;
@@ -84,7 +84,7 @@ fn form(text: &[u8], numbers: &[u64]) {
 
 // ---- a block
 
-// The units from `from` up to `to` are all drawn alike.
+// True if the units from `from` up to `to` all have that mark.
 fn alike(used: &[u32], stop: &[u32], base: usize, from: usize, to: usize, mark: u8) -> bool {
     let mut i = from;
     while i < to {
@@ -106,7 +106,7 @@ fn draw_row(used: &[u32], stop: &[u32], base: usize, from: usize, to: usize) {
     byte(b'\n');
 }
 
-// All free, all inside a span, or mixed, which is drawn.
+// Returns FREE or BODY if the row's units are all free or all inside a span, else START: a row to draw.
 fn row_kind(used: &[u32], stop: &[u32], base: usize, from: usize, to: usize) -> u8 {
     if alike(used, stop, base, from, to, FREE) {
         return FREE;
@@ -117,7 +117,7 @@ fn row_kind(used: &[u32], stop: &[u32], base: usize, from: usize, to: usize) -> 
     START
 }
 
-// Rows that are all alike are counted and not drawn.
+// Writes how many rows of a kind were counted and not drawn.
 fn passed(kind: u8, rows: u64) {
     if 0 < rows {
         byte(b'\t');
@@ -126,17 +126,13 @@ fn passed(kind: u8, rows: u64) {
     }
 }
 
-fn lesser(a: usize, b: usize) -> usize {
-    if a < b { a } else { b }
-}
-
 fn draw_units(used: &[u32], stop: &[u32], base: usize, area: u32) {
     let end = area as usize;
     let mut last = FREE;
     let mut rows: u64 = 0;
     let mut i: usize = 0;
     while i < end {
-        let to = lesser(i + 64, end);
+        let to = numbers::lesser(i + 64, end);
         let kind = row_kind(used, stop, base, i, to);
         if kind != last {
             passed(last, rows);

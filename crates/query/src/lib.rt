@@ -7,7 +7,7 @@ use state::State;
 ghost use mathlib.Core.Path.{_≡_};
 ghost use Rattle.machine.specs.Span.{queryTurn};
 
-// The span that starts at an address. Nothing changes.
+// Shows the span that starts at an address. Changes nothing.
 pub fn query(s: State, used: &[u32], stop: &[u32], address: u64) -> Answer
     ensures { λ r. ⌜ r ≡ queryTurn s (now (used .entry)) (now (stop .entry)) address .answer ⌝ }
 {
@@ -22,6 +22,6 @@ pub fn query(s: State, used: &[u32], stop: &[u32], address: u64) -> Answer
     match held {
         Held::NoSpan => Answer::Refused(Refusal::InvalidArgument),
         Held::NoStop => Answer::Refused(Refusal::Damaged),
-        Held::Units(from, to) => Answer::Shown(spans::span_at(s, j, address, to - from)),
+        Held::Range(from, to) => Answer::Shown(spans::span_at(s, j, address, to - from)),
     }
 }

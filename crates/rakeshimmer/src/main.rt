@@ -2,7 +2,7 @@
 
 fn play_all(file: i32, used: &mut [u32], stop: &mut [u32], buffer: &mut [u8], out: &mut [u8]) {
     let mut f = feed::start();
-    // nothing says that a file ends, so the turns count down from a number that no run uses up
+    // Bounds the loop for the checker: nothing proves that a file ends.
     let mut turns = u64::MAX;
     while 0 < turns && !f.done {
         f = feed::turn(file, f, used, stop, buffer, out);

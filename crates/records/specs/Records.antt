@@ -1,4 +1,4 @@
--- Document 01, The trace: what stands at the front of some bytes. Assumes nothing.
+-- Document 01, The trace: the record that some bytes start with. Assumes nothing.
 use Prim.Native.Nat.{ℕ, _+_, _≤_}
 use mathlib.Core.List.{List}
 use lib.Dec.{ltb, eqb}
@@ -24,7 +24,7 @@ payloadOf kind =
     (pick (eqb kind 6) (Bytes 0)
     (pick (eqb kind 7) (Bytes 0) Unknown))))))
 
--- a payload of its kind's length stands within so many bytes of record
+-- a record with a payload of its kind's length fits into so many bytes
 abbrev pub Holds : Payload → ℕ → Type 0
 Holds (Bytes n) size = 4 + n ≤ size
 Holds Unknown size = ⊥
@@ -43,7 +43,7 @@ callOf bs kind =
     (pick (eqb kind 5) (Query (u64At bs 4))
     (pick (eqb kind 6) SoftReset HardReset)))))
 
--- the payload length that the record says against that of its kind, and against the bytes that are there
+-- bad if the record's payload length isn't that of its kind; cut if fewer bytes are there
 abbrev pub ofPayload : List ℕ → ℕ → ℕ → Payload → Record
 ofPayload bs said kind Unknown = Bad
 ofPayload bs said kind (Bytes n) = pick (eqb said n) (pick (ltb (length bs) (4 + n)) Cut (Whole (4 + n) (callOf bs kind))) Bad

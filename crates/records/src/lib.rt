@@ -1,4 +1,4 @@
-// Document 01's records, read from lent bytes.
+// Reads document 01's records from lent bytes.
 ghost use mathlib.Core.Path.{_≡_};
 ghost use Prim.Native.Nat.{_+_, _≤_, _<_};
 ghost use lib.ListN.{length};
@@ -25,20 +25,20 @@ pub enum Call {
     HardReset,
 }
 
-// What stands at the front of some bytes: too little to be a record, none of document 01's, or a whole one of so many bytes with its call.
+// What some bytes start with: too little to be a record, something that is none of document 01's, or a whole record: its length and call.
 pub enum Record {
     Cut,
     Bad,
     Whole(usize, Call),
 }
 
-// How many bytes the payload of a kind has.
+// The payload length of a kind of record.
 pub enum Payload {
     Bytes(usize),
     Unknown,
 }
 
-// The bytes in front of a payload: its length and the kind.
+// The number of bytes before a payload: its length and the kind, two bytes each.
 pub const HEAD: usize = 4;
 
 // ---- little-endian numbers
@@ -107,7 +107,7 @@ fn asked_of(bytes: &[u8]) -> Asked
     }
 }
 
-// The call of a whole record.
+// Returns the call of a whole record.
 fn call_of(bytes: &[u8], kind: u32) -> Call
     requires { ⌜ Holds (payloadOf kind) (length (now bytes)) ⌝ }
     ensures { λ r. ⌜ r ≡ callOf (now (bytes .entry)) kind ⌝ }
@@ -123,7 +123,7 @@ fn call_of(bytes: &[u8], kind: u32) -> Call
     }
 }
 
-// The record at the front of some bytes. A wrong length is bad at once, however long it says the payload is.
+// Reads the record that the bytes start with. A wrong payload length is bad at once, even if not so many bytes are there.
 pub fn read(bytes: &[u8]) -> Record
     ensures { λ r. ⌜ r ≡ recordOf (now (bytes .entry)) ⌝ }
 {

@@ -1,1 +1,1 @@
-// No code: exactly when a call is refused, by document 01's numbers (specs/When.antt), proved of the machine.
+// No code: proves that a call is refused exactly when document 01 says, by its numbers (machine/specs/When.antt).

@@ -11,13 +11,13 @@ ghost use lib.ListN.{length};
 ghost use Rattle.block.specs.Record.{SpanIn};
 ghost use Rattle.block.specs.Marking.{markReleased};
 ghost use Rattle.state.specs.declared.Answer.{Answer};
-ghost use Rattle.state.specs.declared.Held.the-variants.{Units};
+ghost use Rattle.state.specs.declared.Held.the-variants.{Range};
 ghost use Rattle.state.specs.Table.{blockAt};
 ghost use Rattle.shape.specs.Shaped.{Shaped};
-ghost use Rattle.machine.specs.Turn.{turn, withLive};
+ghost use Rattle.machine.specs.Turn.{turnOf, turn, withLive};
 ghost use Rattle.machine.specs.Release.{lessUsed, settle, releaseHeld, releaseTurn};
 
-// The span of block `j` from unit `from` up to `to` goes.
+// Frees the span of block `j` from unit `from` up to `to`: its bits, its counts, then its block if that is empty now.
 fn free_units(s: State, used: &mut [u32], stop: &mut [u32], j: usize, from: u32, to: u32) -> State
     requires { ⌜ Shaped s (length (now used)) (length (now stop)) × (j < s .count) × SpanIn (blockAt s j) from to ⌝ }
     requires { ⌜ (to - from ≤ blockAt s j .used) × (0 < s .live) ⌝ }
@@ -33,7 +33,7 @@ fn free_units(s: State, used: &mut [u32], stop: &mut [u32], j: usize, from: u32,
     release_settle::settle(r, used, stop, j)
 }
 
-// The same, if the counts allow it: a span longer than its block's used count, and one that is not counted, show damage.
+// As `free_units`, but refuses (6) if the span is longer than the used count or none is live.
 fn release_span(
     s: State,
     used: &mut [u32],
@@ -44,8 +44,8 @@ fn release_span(
     to: u32,
 ) -> Outcome
     requires { ⌜ Shaped s (length (now used)) (length (now stop)) × (j < s .count) × SpanIn (blockAt s j) from to ⌝ }
-    ensures { λ r. ⌜ turn (r .answer) (r .state) (now (used .exit)) (now (stop .exit))
-        ≡ releaseHeld s (now (used .entry)) (now (stop .entry)) address j (Units from to) ⌝ }
+    ensures { λ r. ⌜ turnOf r (now (used .exit)) (now (stop .exit))
+        ≡ releaseHeld s (now (used .entry)) (now (stop .entry)) address j (Range from to) ⌝ }
 {
     let b = state::block_at(s, j);
     if b.used < to - from || s.live == 0 {
@@ -57,9 +57,9 @@ fn release_span(
     Outcome { answer, state }
 }
 
-// The span that starts at an address goes.
+// Frees the span that starts at an address.
 pub fn release(s: State, used: &mut [u32], stop: &mut [u32], address: u64) -> Outcome
-    ensures { λ r. ⌜ turn (r .answer) (r .state) (now (used .exit)) (now (stop .exit)) ≡ releaseTurn s (now (used .entry)) (now (stop .entry)) address ⌝ }
+    ensures { λ r. ⌜ turnOf r (now (used .exit)) (now (stop .exit)) ≡ releaseTurn s (now (used .entry)) (now (stop .entry)) address ⌝ }
 {
     if !shape::shape_ok(s, used.len(), stop.len()) {
         return state::refused(s, Refusal::BadShape);
@@ -79,7 +79,7 @@ pub fn release(s: State, used: &mut [u32], stop: &mut [u32], address: u64) -> Ou
         Held::NoStop => {
             return state::refused(s, Refusal::Damaged);
         }
-        Held::Units(from, to) => {
+        Held::Range(from, to) => {
             return release_span(s, used, stop, address, j, from, to);
         }
     }

@@ -10,7 +10,8 @@ use borrow.Author.Tests.{eq-eqb, ne-eqb, not-true, not-false}
 use lib.Dec.{ltb, eqb}
 use lib.ListN.{length, getD, set, replicate, length-set, List·getD-eq-default, getD-replicate as getD-replicate-in}
 use lib.Seq.{getD-set-same, getD-set-other}
-use Rattle.numbers.proofs.Split.{by-le, by-eq, not-both}
+use Rattle.numbers.proofs.Bools.{not-both, and-left, and-fails-right, and-true}
+use Rattle.numbers.proofs.Split.{by-le, by-eq}
 use Rattle.block.specs.declared.Block.{Block}
 use Rattle.block.specs.Marking.{emptied}
 use Rattle.sizes.specs.declared.Pool.{Pool}
@@ -18,7 +19,7 @@ use Rattle.sizes.specs.Pools.{freshPool}
 use Rattle.state.specs.declared.State.{State}
 use Rattle.state.specs.Table.{blockAt, ageAt, poolAt, all}
 use Rattle.state.specs.Change.{movedUp, placeOf, listFrom, withBlocks, inserted}
-use Rattle.state.proofs.Tests.{and-left, and-true, and-fails-right, all-more}
+use Rattle.state.proofs.Tests.{all-more}
 use Rattle.state.proofs.Lists.{length-listFrom, getD-listFrom, getD-replicate}
 use Rattle.table.specs.Changeable.{Insertable}
 use Rattle.table.proofs.Shift.{moved-below, moved-here, moved-above, or-else-le}

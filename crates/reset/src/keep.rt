@@ -1,4 +1,4 @@
-// The table that a reset leaves: no block, or each pool's oldest one, emptied.
+// Makes the table that a reset leaves: no block, or each pool's oldest one, emptied.
 use block::Block;
 use sizes::Pool;
 use state::State;
@@ -9,7 +9,7 @@ ghost use Rattle.table.specs.Changeable.{Insertable};
 ghost use Rattle.machine.specs.Reset.{emptyTable, keep, kept};
 ghost use Rattle.reset.specs.Keepable.{Keepable};
 
-// The record with no block.
+// Removes all blocks from the record.
 pub fn empty_table(s: State) -> State
     ensures { λ r. ⌜ r ≡ emptyTable s ⌝ }
 {
@@ -24,13 +24,13 @@ pub fn empty_table(s: State) -> State
         length: s.length,
         live: 0,
         count: 0,
-        blocks: [state::zero_block(); 64],
-        order: [0; 64],
+        blocks: [state::zero_block(); state::SLOT_LIMIT],
+        order: [0; state::SLOT_LIMIT],
         pools: [Pool::new(s.granularity); 3],
     }
 }
 
-// A block's record with no unit used.
+// Makes a block's record as it is with no unit used.
 fn emptied_record(b: Block) -> Block
     ensures { λ r. ⌜ r ≡ emptied b ⌝ }
 {
@@ -43,7 +43,7 @@ fn emptied_record(b: Block) -> Block
     r
 }
 
-// A block enters a table as its pool's one empty block.
+// Enters a block, emptied, into a table as its pool's one empty block.
 fn keep_block(r: State, b: Block) -> State
     requires { ⌜ Insertable r (emptied b) ⌝ }
     ensures { λ x. ⌜ x ≡ keep r b ⌝ }
@@ -51,13 +51,13 @@ fn keep_block(r: State, b: Block) -> State
     let fresh = emptied_record(b);
     let mut x = table::insert::insert_block(r, fresh);
     let p = b.pool;
-    let mut pool = x.pools[p];
-    pool.empty = 1;
-    x.pools[p] = pool;
+    let mut q = x.pools[p];
+    q.empty = 1;
+    x.pools[p] = q;
     x
 }
 
-// The record with each pool's oldest block. `seen` has the pools of the blocks passed, so that a block is its pool's oldest if its pool is not there yet.
+// Keeps each pool's oldest block, and no other. `seen[p]`: pool p's oldest block was kept.
 fn keep_oldest(s: State) -> State
     requires { ⌜ Keepable s ⌝ }
     ensures { λ r. ⌜ r ≡ kept s (s .count) ⌝ }
@@ -77,7 +77,7 @@ fn keep_oldest(s: State) -> State
     r
 }
 
-// What a soft reset leaves of the table. Under immediate release no empty block stays.
+// Makes the table that a soft reset leaves. Under immediate release it keeps no block.
 pub fn soft_reset_table(s: State) -> State
     requires { ⌜ Keepable s ⌝ }
     ensures { λ r. ⌜ r ≡ pick (s .immediate) (emptyTable s) (kept s (s .count)) ⌝ }

@@ -8,11 +8,11 @@ use state::State;
 ghost use mathlib.Core.Path.{_≡_};
 ghost use mathlib.Core.Bool.{true, false};
 ghost use lib.ListN.{length};
-ghost use Rattle.machine.specs.Turn.{turn};
+ghost use Rattle.machine.specs.Turn.{turnOf};
 ghost use Rattle.machine.specs.Reset.{clearBlocks, resetTurn};
 ghost use Rattle.reset.specs.Clearable.{Clearable};
 
-// The slots of all standing blocks cleared in one map. No word of another slot is written.
+// Clears the slots of all blocks in one map. It writes no word of another slot.
 fn clear_blocks(s: State, words: &mut [u32])
     requires { ⌜ Clearable s (length (now words)) ⌝ }
     ensures { λ _. ⌜ now (words .exit) ≡ clearBlocks s (s .count) (now (words .entry)) ⌝ }
@@ -25,9 +25,9 @@ fn clear_blocks(s: State, words: &mut [u32])
     }
 }
 
-// All blocks go.
+// Removes all blocks.
 pub fn hard_reset(s: State, used: &mut [u32], stop: &mut [u32]) -> Outcome
-    ensures { λ r. ⌜ turn (r .answer) (r .state) (now (used .exit)) (now (stop .exit)) ≡ resetTurn s (now (used .entry)) (now (stop .entry)) true ⌝ }
+    ensures { λ r. ⌜ turnOf r (now (used .exit)) (now (stop .exit)) ≡ resetTurn s (now (used .entry)) (now (stop .entry)) true ⌝ }
 {
     if !shape::shape_ok(s, used.len(), stop.len()) {
         return state::refused(s, Refusal::BadShape);
@@ -39,9 +39,9 @@ pub fn hard_reset(s: State, used: &mut [u32], stop: &mut [u32]) -> Outcome
     Outcome { answer, state }
 }
 
-// Each pool keeps its oldest block, emptied; with immediate release all blocks go.
+// Removes all blocks but each pool's oldest, which it empties; under immediate release, all blocks.
 pub fn soft_reset(s: State, used: &mut [u32], stop: &mut [u32]) -> Outcome
-    ensures { λ r. ⌜ turn (r .answer) (r .state) (now (used .exit)) (now (stop .exit)) ≡ resetTurn s (now (used .entry)) (now (stop .entry)) false ⌝ }
+    ensures { λ r. ⌜ turnOf r (now (used .exit)) (now (stop .exit)) ≡ resetTurn s (now (used .entry)) (now (stop .entry)) false ⌝ }
 {
     if !shape::shape_ok(s, used.len(), stop.len()) {
         return state::refused(s, Refusal::BadShape);

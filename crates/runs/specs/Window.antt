@@ -1,4 +1,4 @@
--- Free units in a window of a used map, from a up to end. Assumes nothing.
+-- Free units in a window of a used map, from start up to end. Assumes nothing.
 use Prim.Native.Nat.{ℕ, _+_, _-_, _≤_, _<_}
 use mathlib.Core.List.{List}
 use mathlib.Core.Logic.{_⊎_}
@@ -7,48 +7,48 @@ use Rattle.bits.specs.Bits.{bit}
 use Rattle.runs.specs.declared.Search.{Search}
 use Rattle.runs.specs.declared.Search.the-variants.{At, Tight, Full}
 
--- the n units from i on are free
+-- the n units from `from` on are free
 abbrev pub FreeAt : List ℕ → ℕ → ℕ → Type 0
-FreeAt ws n i = (k : ℕ) → i ≤ k → k < i + n → bit ws k ≡ 0
+FreeAt ws n from = (k : ℕ) → from ≤ k → k < from + n → bit ws k ≡ 0
 
--- every unit from a up to b is used
+-- every unit from `from` up to `to` is used
 abbrev pub UsedIn : List ℕ → ℕ → ℕ → Type 0
-UsedIn ws a b = (k : ℕ) → a ≤ k → k < b → bit ws k ≡ 1
+UsedIn ws from to = (k : ℕ) → from ≤ k → k < to → bit ws k ≡ 1
 
--- no n free units, within a window that ends at end, start from a on and before b
+-- no n free units, within a window that ends at end, start from `from` on and before `to`
 abbrev pub NoFit : List ℕ → ℕ → ℕ → ℕ → ℕ → Type 0
-NoFit ws end n a b = (i : ℕ) → a ≤ i → i < b → i + n ≤ end → FreeAt ws n i → ⊥
+NoFit ws end n from to = (i : ℕ) → from ≤ i → i < to → i + n ≤ end → FreeAt ws n i → ⊥
 
 -- i is the lowest place of n free units in the window
-pub record Lowest (ws : List ℕ) (a end n i : ℕ) : Type 0 where
-  pub low : a ≤ i
+pub record Lowest (ws : List ℕ) (start end n i : ℕ) : Type 0 where
+  pub low : start ≤ i
   pub high : i + n ≤ end
   pub free : FreeAt ws n i
-  pub least : NoFit ws end n a i
+  pub least : NoFit ws end n start i
 
 -- the window has a free unit: first is its first, last the end of its last free run, and longest the length of its longest
-pub record Tightened (ws : List ℕ) (a end first last longest : ℕ) : Type 0 where
-  pub low : a ≤ first
+pub record Tightened (ws : List ℕ) (start end first last longest : ℕ) : Type 0 where
+  pub low : start ≤ first
   pub some : first < last
   pub high : last ≤ end
-  pub before : UsedIn ws a first
+  pub before : UsedIn ws start first
   pub opens : bit ws first ≡ 0
   pub closes : bit ws (last - 1) ≡ 0
   pub after : UsedIn ws last end
-  pub place : (i : ℕ) × (a ≤ i) × (i + longest ≤ end) × FreeAt ws longest i
-  pub none-longer : NoFit ws end (longest + 1) a end
+  pub place : (i : ℕ) × (start ≤ i) × (i + longest ≤ end) × FreeAt ws longest i
+  pub none-longer : NoFit ws end (longest + 1) start end
 
 -- what a search for n units answers
 abbrev pub Sought : List ℕ → ℕ → ℕ → ℕ → Search → Type 0
-Sought ws a end n (At i) = Lowest ws a end n i
-Sought ws a end n (Tight first last longest) = Tightened ws a end first last longest × (longest < n)
-Sought ws a end n Full = UsedIn ws a end
+Sought ws start end n (At i) = Lowest ws start end n i
+Sought ws start end n (Tight first last longest) = Tightened ws start end first last longest × (longest < n)
+Sought ws start end n Full = UsedIn ws start end
 
--- the units from start up to e are a maximal free run of the window, clipped at both of its ends
-pub record FreeRun (ws : List ℕ) (a end start e : ℕ) : Type 0 where
-  pub low : a ≤ start
-  pub some : start < e
-  pub high : e ≤ end
-  pub free : (k : ℕ) → start ≤ k → k < e → bit ws k ≡ 0
-  pub opens : (start ≡ a) ⊎ (bit ws (start - 1) ≡ 1)
-  pub closes : (e ≡ end) ⊎ (bit ws e ≡ 1)
+-- the units from `from` up to `to` are a maximal free run of the window, clipped at both of its ends
+pub record FreeRun (ws : List ℕ) (start end from to : ℕ) : Type 0 where
+  pub low : start ≤ from
+  pub some : from < to
+  pub high : to ≤ end
+  pub free : (k : ℕ) → from ≤ k → k < to → bit ws k ≡ 0
+  pub opens : (from ≡ start) ⊎ (bit ws (from - 1) ≡ 1)
+  pub closes : (to ≡ end) ⊎ (bit ws to ≡ 1)

@@ -1,5 +1,5 @@
-// A walk over the runs of free units of a used map within a window, the Rust's `BitVectorRangeIterator`: its types and its start. A window is the units from `start` up to `end`, and
-// empty where `end` is not above `start`. Runs are clipped at both ends.
+// Walks over the runs of free units of a used map within a window, as the Rust's `BitVectorRangeIterator`: its types and its start. A
+// window is the units from `start` up to `end`, and is empty if `end` is not above `start`. Runs are clipped at both ends.
 pub mod ranges;
 pub mod walker;
 pub mod window;
@@ -9,20 +9,20 @@ ghost use Prim.Native.Nat.{_*_, _^_, _<_, _≤_};
 ghost use lib.ListN.{length};
 ghost use Rattle.bits.specs.Walk.{Seen};
 
-// Where a walk stands: a word by its index, those of its free units that are still to be looked at as ones, and the window's end.
+// Where a walk stands: the index of a word, that word's free units still to visit as ones, and the window's end.
 pub struct Walk {
     pub at: usize,
     pub word: u32,
     pub end: usize,
 }
 
-// The next run, from its first unit up to its end, and where the walk goes on.
+// The next run, from its first unit up to its end, and where the walk goes on; or no run is left.
 pub enum Next {
     Run(usize, usize, Walk),
     Done,
 }
 
-// A walk at the window's start. An empty window's walk may stand behind the last word, and no word is read.
+// Starts a walk at the window's start. In an empty window it may stand after the last word, and then reads no word.
 pub fn start_walk(words: &[u32], start: usize, end: usize) -> Walk
     requires { ⌜ (start ≤ 32 * length (now words)) × (end ≤ 32 * length (now words)) × (length (now words) < 2 ^ 32) ⌝ }
     ensures { λ r. ⌜ Seen (now (words .entry)) end start 0 (r .at) (r .word) ⌝ }
@@ -37,8 +37,8 @@ pub fn start_walk(words: &[u32], start: usize, end: usize) -> Walk
     Walk { at, word: 0, end }
 }
 
-// What a search in a window finds: the lowest place; or else the window's first free unit, the end of its last free run and its longest
-// free run; or no free unit at all.
+// The result of a search in a window: the lowest place; or else the window's first free unit, the end of its last free run and the length
+// of its longest; or that no unit is free.
 pub enum Search {
     At(usize),
     Tight(usize, usize, usize),

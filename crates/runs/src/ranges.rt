@@ -1,19 +1,13 @@
-// The next run of free units of a used map within a window, index where a walk stands: the Rust's `next_range`.
+// Finds the next run of free units from where a walk stands: the Rust's `next_range`.
 use crate::Next;
 use crate::Walk;
 ghost use mathlib.Core.Path.{_≡_};
-ghost use Prim.Native.Nat.{ℕ, _+_, _*_, _<_, _≤_, min};
+ghost use Prim.Native.Nat.{ℕ, _+_, _*_, _<_, _≤_};
 ghost use lib.ListN.{length};
 ghost use Rattle.bits.specs.Walk.{Seen};
 ghost use Rattle.runs.specs.Walk.{Stands, ClearIn, Ends, StepAnswer};
 
-fn lesser(a: usize, b: usize) -> usize
-    ensures { λ r. ⌜ r ≡ min a b ⌝ }
-{
-    if a < b { a } else { b }
-}
-
-// Goes to the first word from word `index` on that has free units left, or to the window's last.
+// Moves to the first word from word `index` on that has free units left, or to the window's last word.
 fn skip(words: &[u32], index: usize, left: u32, end: usize) -> Walk
     requires { ⌜ Stands (now words) index end ⌝ }
     ensures { λ r. ⌜ ((p : ℕ) → Seen (now (words .entry)) end p 0 index left → Seen (now (words .entry)) end p 0 (r .at) (r .word)) ⌝ }
@@ -32,15 +26,15 @@ fn skip(words: &[u32], index: usize, left: u32, end: usize) -> Walk
     Walk { at, word, end }
 }
 
-// Follows the run of free units that starts at unit `from`, in word `index`, to its end, or until it is as long as `hint`. The run has all units of
-// that word from `from` on; `end` is the window's.
+// Follows the run of free units that starts at unit `from`, in word `index`, to its end, or until it is as long as `hint`. All units of
+// that word from `from` on are free; `end` is the window's.
 fn extend(words: &[u32], index: usize, from: usize, end: usize, hint: usize) -> Walk
     requires { ⌜ Stands (now words) index end ⌝ }
     requires { ⌜ (from < end) × (32 * index ≤ from) × (from < 32 * index + 32) ⌝ }
     ensures { λ r. ⌜ (ClearIn (now (words .entry)) from (32 * index + 32) end → Ends (now (words .entry)) from end hint (r .end) (r .at) (r .word)) ⌝ }
 {
     let mut at = index;
-    let mut to = lesser(at * 32 + 32, end);
+    let mut to = numbers::lesser(at * 32 + 32, end);
     while to - from < hint {
         if to == end {
             return Walk {
@@ -53,14 +47,14 @@ fn extend(words: &[u32], index: usize, from: usize, end: usize, hint: usize) -> 
         let w = words[at];
         if w != 0 {
             let j = u32::trailing_zeros(w);
-            let stop = lesser(at * 32 + (j as usize), end);
+            let stop = numbers::lesser(at * 32 + (j as usize), end);
             return Walk {
                 at,
                 word: !w & (0xffff_ffff << j),
                 end: stop,
             };
         }
-        to = lesser(at * 32 + 32, end);
+        to = numbers::lesser(at * 32 + 32, end);
     }
     Walk {
         at,
@@ -69,8 +63,8 @@ fn extend(words: &[u32], index: usize, from: usize, end: usize, hint: usize) -> 
     }
 }
 
-// The next run of free units, with slice and position apart. A run that is as long as `hint` may be cut there, as in the Rust: whoever asks
-// for `hint` units has found them.
+// Finds the next run of free units, given the words and the position. As in the Rust, it may stop at a run of `hint` units and not look for
+// its end: a caller who asks for `hint` units has found them.
 pub fn next_range(words: &[u32], index: usize, left: u32, end: usize, hint: usize) -> Next
     requires { ⌜ Stands (now words) index end ⌝ }
     ensures { λ r. ⌜ StepAnswer (now (words .entry)) index left end hint r ⌝ }
@@ -89,7 +83,7 @@ pub fn next_range(words: &[u32], index: usize, left: u32, end: usize, hint: usiz
     let used = !word & (0xffff_ffff << i);
     if used != 0 {
         let j = u32::trailing_zeros(used);
-        let to = lesser(at * 32 + (j as usize), end);
+        let to = numbers::lesser(at * 32 + (j as usize), end);
         let rest = word & (0xffff_ffff << j);
         return Next::Run(
             from,

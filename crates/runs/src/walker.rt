@@ -1,4 +1,4 @@
-// The walk that keeps hold of the words it reads, as in the Rust. Its functions are thin over `next_range` of ranges: one takes it apart, one makes it.
+// A walk that holds the words it reads, as in the Rust. `next` takes it apart for `next_range` of ranges; `step` makes one.
 use crate::Next;
 ghost use Rattle.runs.specs.Walk.{Stands, StepAnswer};
 
@@ -16,7 +16,7 @@ pub fn next<'a>(r: BitVectorRangeIterator<'a>, hint: usize) -> Next
     crate::ranges::next_range(r.slice, r.at, r.word, r.end, hint)
 }
 
-// A step of the held walk for a caller whose own parameters are plain, as the search.
+// Takes one step for a caller that holds the parts of a walk and not the walk, as the search does.
 pub fn step(slice: &[u32], at: usize, left: u32, end: usize, hint: usize) -> Next
     requires { ⌜ Stands (now slice) at end ⌝ }
     ensures { λ r. ⌜ StepAnswer (now (slice .entry)) at left end hint r ⌝ }

@@ -1,4 +1,4 @@
-// The search for a place in a window: what `alloc` of the Rust does with the run walker in one block.
+// Searches a window for a place: what `alloc` of the Rust does with the run walker in one block.
 use crate::Next;
 use crate::Search;
 ghost use mathlib.Core.Path.{_≡_};
@@ -13,7 +13,7 @@ fn greater(a: usize, b: usize) -> usize
     if a < b { b } else { a }
 }
 
-// The start of the first run: of this one if there was none before.
+// Returns the first run's start: `start` if no run came before (`longest` is 0), else `first`.
 fn first_start(longest: usize, first: usize, start: usize) -> usize
     ensures { λ r. ⌜ ((longest ≡ 0 → r ≡ start) × (0 < longest → r ≡ first)) ⌝ }
 {
@@ -30,7 +30,7 @@ fn tight_or_full(first: usize, last: usize, longest: usize) -> Search
     }
 }
 
-// The lowest place of `n` free units in the window, or what the window tightens to.
+// Finds the lowest place of `n` free units in the window, or what the window tightens to.
 pub fn search_window(words: &[u32], start: usize, end: usize, n: usize) -> Search
     requires { ⌜ (start ≤ 32 * length (now words)) × (end ≤ 32 * length (now words)) × (length (now words) < 2 ^ 32) × (0 < n) ⌝ }
     ensures { λ r. ⌜ Sought (now (words .entry)) start end n r ⌝ }

@@ -8,15 +8,15 @@ use mathlib.Core.Logic.{_⊎_, inl, inr, ⊎-elim}
 use native.Mathlib.Omega.{arith}
 use lib.Dec.{ltb, eqb}
 use borrow.Author.Tests.{ltb-true, ltb-false, lt-ltb, le-ltb, eqb-true, eq-eqb, not-true}
-use Rattle.numbers.proofs.Split.{not-both, by-eq, by-le}
+use Rattle.numbers.proofs.Bools.{not-both, by-bool, refute, not-of-false, and-left, and-right, and-both, and-fails-left, and-fails-right, and-then}
+use Rattle.numbers.proofs.Split.{by-eq, by-le}
 use Rattle.block.specs.declared.Block.{Block}
 use Rattle.state.specs.declared.State.{State}
 use Rattle.state.specs.Table.{blockAt, ageAt, all, allPairs, sum, one}
 use Rattle.state.specs.Shape.{meet, onceOk, risingOk, orderOk, zeroOk}
-use Rattle.state.proofs.Tests.{and-left, and-right, and-both, and-fails-left, and-fails-right, every-at, all-at, all-of, pairs-at, pairs-of}
+use Rattle.state.proofs.Tests.{every-at, all-at, all-of, pairs-at, pairs-of}
 use Rattle.shape.specs.Parts.{bytesApart, layoutOk}
 use Rattle.shape.specs.Facts.{Laid}
-use Rattle.shape.proofs.Bools.{refute, not-of-false, by-bool, and-then}
 use Rattle.shape.proofs.Pigeon.{each-once, once-below, place}
 use Rattle.shape.proofs.Order.{chain}
 

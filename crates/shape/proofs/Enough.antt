@@ -6,7 +6,8 @@ use mathlib.Core.Logic.{_⊎_, ⊎-elim}
 use native.Mathlib.Omega.{arith}
 use lib.Dec.{leb, eqb}
 use borrow.Author.Tests.{lt-ltb, le-leb, eq-eqb, ne-eqb}
-use Rattle.numbers.proofs.Split.{not-both, by-le}
+use Rattle.numbers.proofs.Bools.{not-both, not-of-false, and-both, or-left, or-right}
+use Rattle.numbers.proofs.Split.{by-le}
 use Rattle.numbers.specs.Pick.{pick}
 use Rattle.block.specs.declared.Block.{Block}
 use Rattle.sizes.specs.declared.Pool.{Pool}
@@ -14,11 +15,10 @@ use Rattle.sizes.specs.Limits.{isGranularity}
 use Rattle.state.specs.declared.State.{State}
 use Rattle.state.specs.Table.{blockAt, poolAt, all, sum}
 use Rattle.state.specs.Shape.{isEmpty, emptiesOf, arenaOk, numbersOk, zeroOk, goodShape}
-use Rattle.state.proofs.Tests.{and-both, all-of, pairs-of}
+use Rattle.state.proofs.Tests.{all-of, pairs-of}
 use Rattle.shape.specs.Parts.{headOk, blockOk, blockOkIn, samePool, poolSum, poolMatches, slotsApart, tableOk}
 use Rattle.shape.specs.Facts.{Headed, Lent, ShapedBlockIn}
 use Rattle.shape.specs.Shaped.{Shaped, Enough}
-use Rattle.shape.proofs.Bools.{not-of-false, or-left, or-right}
 use Rattle.shape.proofs.Head.{head-of}
 use Rattle.shape.proofs.OneBlock.{laid}
 use Rattle.shape.proofs.Address.{layout-done}
@@ -42,8 +42,8 @@ arena-test : (s : State) → Headed s → arenaOk (s .arena) (s .length) ≡ tru
 arena-test s h =
     and-both _ _ (not-zero-test (s .arena) (h .arena-low))
     (and-both _ _ (not-zero-test (s .length) (h .length-low))
-    (and-both _ _ (eq-eqb (s .arena % 65536) 0 (h .arena-even))
-    (and-both _ _ (eq-eqb (s .length % 65536) 0 (h .length-even))
+    (and-both _ _ (eq-eqb (s .arena % 65536) 0 (h .arena-whole))
+    (and-both _ _ (eq-eqb (s .length % 65536) 0 (h .length-whole))
     (and-both _ _ (le-leb (s .arena + s .length) (2 ^ 48) (h .top)) refl))))
 
 numbers-test : (s : State) → Headed s → numbersOk s ≡ true
@@ -70,7 +70,7 @@ block-test s b k =
     (and-both _ _ (lt-ltb (b .pool) (s .poolcount) (k .pool))
     (and-both _ _ (eq-eqb (b .base % 65536) 0 (k .base))
     (and-both _ _ (not-zero-test (b .area) (k .area-low))
-    (and-both _ _ (eq-eqb (b .area % 32) 0 (k .area-even))
+    (and-both _ _ (eq-eqb (b .area % 32) 0 (k .area-whole))
     (and-both _ _ (eq-eqb (b .area * s .granularity) (b .size) (k .area-size))
     (and-both _ _ (le-leb (b .area) (32 * s .w) (k .area-high))
     (and-both _ _ (le-leb (b .used) (b .area) (k .used))

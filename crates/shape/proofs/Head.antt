@@ -7,13 +7,13 @@ use mathlib.Core.Logic.{_⊎_, inl, inr, ⊎-elim}
 use native.Mathlib.Omega.{arith}
 use lib.Dec.{leb, eqb}
 use borrow.Author.Tests.{leb-true, eqb-true, eqb-false, not-true, le-leb}
+use Rattle.numbers.proofs.Bools.{and-left, and-right, and-both, or-cases}
 use Rattle.sizes.specs.Limits.{isGranularity, isPowerOfTwo, isBaseSize}
 use Rattle.state.specs.declared.State.{State}
 use Rattle.state.specs.Shape.{arenaOk, numbersOk, slotsOk, slicesOk, countOk}
-use Rattle.state.proofs.Tests.{every-at, and-left, and-right, and-both}
+use Rattle.state.proofs.Tests.{every-at}
 use Rattle.shape.specs.Parts.{headOk}
 use Rattle.shape.specs.Facts.{Headed, Lent}
-use Rattle.shape.proofs.Bools.{or-cases}
 
 -- the lists as they stand in the definition
 abbrev arenaTests : ℕ → ℕ → List Bool
@@ -73,9 +73,9 @@ headed s u t e =
       w-low = leb-true 1 (s .w) (every-at (numberTests s) 3 n);
       w-high = words-high s n;
       arena-low = not-zero (s .arena) (every-at (arenaTests (s .arena) (s .length)) 0 a);
-      arena-even = eqb-true (s .arena % 65536) 0 (every-at (arenaTests (s .arena) (s .length)) 2 a);
+      arena-whole = eqb-true (s .arena % 65536) 0 (every-at (arenaTests (s .arena) (s .length)) 2 a);
       length-low = not-zero (s .length) (every-at (arenaTests (s .arena) (s .length)) 1 a);
-      length-even = eqb-true (s .length % 65536) 0 (every-at (arenaTests (s .arena) (s .length)) 3 a);
+      length-whole = eqb-true (s .length % 65536) 0 (every-at (arenaTests (s .arena) (s .length)) 3 a);
       top = leb-true (s .arena + s .length) (2 ^ 48) (every-at (arenaTests (s .arena) (s .length)) 4 a);
       slots-low = leb-true 1 (s .slots) (and-left (leb 1 (s .slots)) (leb (s .slots) 64) slots);
       slots-high = leb-true (s .slots) 64 (and-right (leb 1 (s .slots)) (leb (s .slots) 64) slots);

@@ -1,4 +1,3 @@
-pub mod Bools
 pub mod Head
 pub mod OneBlock
 pub mod Sums

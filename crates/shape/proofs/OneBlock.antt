@@ -8,6 +8,7 @@ use lib.Dec.{eqb}
 use lib.ListN.{getD}
 use borrow.Author.Tests.{leb-true, ltb-true, eqb-true, eq-eqb, not-true}
 use Rattle.numbers.specs.Pick.{pick}
+use Rattle.numbers.proofs.Bools.{not-both}
 use Rattle.block.specs.declared.Block.{Block}
 use Rattle.state.specs.declared.State.{State}
 use Rattle.state.specs.Table.{blockAt}
@@ -15,7 +16,6 @@ use Rattle.state.specs.Shape.{isEmpty}
 use Rattle.state.proofs.Tests.{every-at}
 use Rattle.shape.specs.Parts.{blockTests, blockOk}
 use Rattle.shape.specs.Facts.{Headed, ShapedBlock, ShapedBlockIn, Laid}
-use Rattle.numbers.proofs.Split.{not-both}
 use Rattle.shape.proofs.Head.{not-zero}
 
 empty-unused : (e : Bool) (n : ℕ) → pick e (eqb n 0) (not (eqb n 0)) ≡ true → e ≡ true → n ≡ 0
@@ -33,7 +33,7 @@ sound g pools w slots arena length b e = record {
   pool = ltb-true (b .pool) pools (at 1);
   base = eqb-true (b .base % 65536) 0 (at 2);
   area-low = not-zero (b .area) (at 3);
-  area-even = eqb-true (b .area % 32) 0 (at 4);
+  area-whole = eqb-true (b .area % 32) 0 (at 4);
   area-size = eqb-true (b .area * g) (b .size) (at 5);
   area-high = leb-true (b .area) (32 * w) (at 6);
   used = leb-true (b .used) (b .area) (at 7);

@@ -6,10 +6,10 @@ use native.Mathlib.Nat.{not-suc-le-zero, suc-mul}
 use native.Mathlib.Omega.{arith}
 use lib.Dec.{eqb}
 use borrow.Author.Tests.{eq-eqb, ne-eqb, eqb-true}
+use Rattle.numbers.proofs.Bools.{by-bool, refute}
 use Rattle.numbers.proofs.Split.{by-eq, by-le}
 use Rattle.state.specs.Table.{sum, one}
 use Rattle.state.proofs.Tests.{sum-same, sum-bound}
-use Rattle.shape.proofs.Bools.{by-bool, refute}
 
 -- ---- sums
 sum-const : (n m : ℕ) → sum n (λ i. m) ≡ n * m

@@ -8,11 +8,12 @@ use lib.Dec.{eqb}
 use lib.ListN.{getD}
 use borrow.Author.Tests.{leb-true, eqb-true, eqb-false, not-true}
 use Rattle.numbers.specs.Pick.{pick}
+use Rattle.numbers.proofs.Bools.{and-left, and-right}
 use Rattle.sizes.specs.declared.Pool.{Pool}
 use Rattle.state.specs.declared.State.{State}
 use Rattle.state.specs.Table.{blockAt, ageAt, poolAt, sum}
 use Rattle.state.specs.Shape.{poolOk, emptiesOk, emptiesOf, goodShape}
-use Rattle.state.proofs.Tests.{and-left, and-right, every-at, all-at, pairs-at}
+use Rattle.state.proofs.Tests.{every-at, all-at, pairs-at}
 use Rattle.shape.specs.Parts.{blockOkIn, samePool, poolSum, poolMatches, slotsApart, tableOk}
 use Rattle.shape.specs.Facts.{ShapedBlockIn}
 use Rattle.shape.specs.Shaped.{Shaped}

@@ -5,8 +5,8 @@ use mathlib.Core.Bool.{Bool, true, false}
 use native.Mathlib.Omega.{arith}
 use lib.Dec.{leb, eqb}
 use borrow.Author.Tests.{leb-true, eqb-true, eq-eqb, ne-eqb, le-leb}
+use Rattle.numbers.proofs.Bools.{same-test}
 use Rattle.state.specs.Table.{one, blockAt, sum, only}
-use Rattle.shape.proofs.Bools.{same-test}
 use native.Mathlib.Nat.{add-zero}
 use Rattle.sizes.specs.Pools.{freshPool}
 use Rattle.state.specs.declared.State.{State}

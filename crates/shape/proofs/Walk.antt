@@ -8,7 +8,8 @@ use lib.Dec.{leb, eqb}
 use lib.ListN.{length, getD, set, replicate, length-set, length-replicate, getD-replicate}
 use lib.Seq.{getD-set-same, getD-set-other}
 use borrow.Author.Tests.{eq-eqb, ne-eqb}
-use Rattle.numbers.proofs.Split.{not-both, by-eq}
+use Rattle.numbers.proofs.Bools.{not-both, not-of-true, not-of-false, and-then}
+use Rattle.numbers.proofs.Split.{by-eq}
 use Rattle.block.specs.declared.Block.{Block}
 use Rattle.sizes.specs.declared.Pool.{Pool}
 use Rattle.sizes.specs.Pools.{freshPool}
@@ -18,7 +19,6 @@ use Rattle.state.specs.Shape.{inPool, isEmpty, liveOk}
 use Rattle.state.proofs.Tests.{every-fails, all-of, all-fails, pairs-of, pairs-fail, sum-more, sum-bound}
 use Rattle.shape.specs.Parts.{blockOkIn, counted, poolSum, poolMatches, slotsApart, tableOk}
 use Rattle.shape.specs.Facts.{Headed, ShapedBlockIn, Countable}
-use Rattle.shape.proofs.Bools.{not-of-true, not-of-false, and-then}
 use Rattle.shape.proofs.Slots.{none-seen, mark-stays}
 use Rattle.shape.proofs.Sums.{one-le, only-le, no-sums, sum-in, sum-out}
 use Rattle.shape.proofs.OneBlock.{sound}

@@ -5,14 +5,13 @@ use mathlib.Core.Bool.{Bool, true, false, not, _&&_}
 use mathlib.Core.List.{List, [], _∷_}
 use lib.Dec.{leb, ltb, eqb}
 use lib.ListN.{getD}
+use Rattle.numbers.proofs.Bools.{not-both, refute, same-test, and-left, and-right, and-both}
 use Rattle.block.specs.declared.Block.{Block}
 use Rattle.state.specs.declared.State.{State}
 use Rattle.state.specs.Table.{blockAt, poolAt, all}
 use Rattle.state.specs.Shape.{numbersOk, slotsOk, placeOk, baseOk, areaOk, fieldsOk, insideOk, emptyOk, flagsOk, apart, poolOk, emptiesOk, liveOk, orderOk, zeroOk, clauses, goodShape}
-use Rattle.state.proofs.Tests.{and-left, and-right, and-both, every-at, all-at, all-of, pairs-at, pairs-of}
+use Rattle.state.proofs.Tests.{every-at, all-at, all-of, pairs-at, pairs-of}
 use Rattle.shape.specs.Parts.{headOk, blockTests, blockOk, blockOkIn, poolSum, poolMatches, slotsApart, bytesApart, tableOk, layoutOk}
-use Rattle.numbers.proofs.Split.{not-both}
-use Rattle.shape.proofs.Bools.{refute, same-test}
 use Rattle.shape.proofs.Head.{headTests}
 use Rattle.shape.proofs.Walk.{tableTests}
 use Rattle.shape.proofs.Address.{layoutTests}

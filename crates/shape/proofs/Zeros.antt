@@ -5,12 +5,13 @@ use mathlib.Core.Bool.{Bool, true, false, _&&_}
 use native.Mathlib.Omega.{arith}
 use lib.Dec.{eqb}
 use borrow.Author.Tests.{lt-ltb, le-ltb, eq-eqb, ne-eqb, eqb-true}
+use Rattle.numbers.proofs.Bools.{and-left, and-right, and-both, and-fails-left, and-fails-right}
 use Rattle.numbers.proofs.Split.{by-eq}
 use Rattle.numbers.specs.Pick.{pick}
 use Rattle.state.specs.declared.State.{State}
 use Rattle.state.specs.Table.{blockAt, ageAt, all}
 use Rattle.state.specs.Shape.{isZero, zeroOk}
-use Rattle.state.proofs.Tests.{and-left, and-right, and-both, and-fails-left, and-fails-right, every-at, all-at, all-fails}
+use Rattle.state.proofs.Tests.{every-at, all-at, all-fails}
 use Rattle.shape.specs.Parts.{layoutOk}
 use Rattle.shape.proofs.Address.{layoutTests}
 

@@ -1,9 +1,10 @@
--- BadShape's clauses in the parts that the code tests. That the parts together are the printed clauses is proved, not said. Assumes nothing.
+-- BadShape's clauses in the parts that the code tests. It is proved that the parts together are the printed clauses. Assumes nothing.
 use Prim.Native.Nat.{ℕ, _+_, _*_, _%_}
 use mathlib.Core.Bool.{Bool, not, _&&_}
 use mathlib.Core.List.{List, [], _∷_}
 use lib.Dec.{leb, ltb, eqb}
 use Rattle.numbers.specs.Pick.{pick}
+use Rattle.sizes.specs.Limits.{page, slotLimit}
 use Rattle.block.specs.declared.Block.{Block}
 use Rattle.sizes.specs.declared.Pool.{Pool}
 use Rattle.state.specs.declared.State.{State}
@@ -20,7 +21,7 @@ abbrev pub blockTests : ℕ → ℕ → ℕ → ℕ → ℕ → ℕ → Block �
 blockTests g pools w slots arena length b =
     ltb (b .slot) slots
     ∷ ltb (b .pool) pools
-    ∷ eqb (b .base % 65536) 0
+    ∷ eqb (b .base % page) 0
     ∷ not (eqb (b .area) 0)
     ∷ eqb (b .area % 32) 0
     ∷ eqb (b .area * g) (b .size)
@@ -75,7 +76,7 @@ samePool a b =
 abbrev pub poolMatches : Pool → Pool → Bool → Bool
 poolMatches stored sums immediate = samePool stored sums && leb (sums .empty) (pick immediate 0 1)
 
--- ---- the table, the address order, and what lies behind both
+-- ---- the table, the address order, and the zeros after both
 abbrev pub slotsApart : State → ℕ → ℕ → Bool
 slotsApart s i j = not (eqb (blockAt s i .slot) (blockAt s j .slot))
 
@@ -92,4 +93,4 @@ tableOk s =
     ∷ [])
 
 unfoldable pub layoutOk : State → Bool
-layoutOk s = every (orderOk s ∷ allPairs (s .count) (bytesApart s) ∷ all 64 (zeroOk s) ∷ [])
+layoutOk s = every (orderOk s ∷ allPairs (s .count) (bytesApart s) ∷ all slotLimit (zeroOk s) ∷ [])

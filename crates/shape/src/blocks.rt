@@ -1,8 +1,9 @@
-// What the test for refusal 5, BadShape, asks of one block by itself. It takes any numbers.
+// Tests one block by itself for refusal 5, BadShape. Its numbers may be any.
 use block::Block;
 ghost use mathlib.Core.Path.{_≡_};
 ghost use Prim.Native.Nat.{_≤_};
 ghost use Rattle.state.specs.Table.{one};
+ghost use Rattle.sizes.specs.Limits.{maxSlotWords};
 ghost use Rattle.state.specs.Shape.{isEmpty, isZero, emptyOk};
 ghost use Rattle.shape.specs.Parts.{blockOk};
 
@@ -54,7 +55,7 @@ fn empty_ok(b: Block) -> bool
     b.used != 0
 }
 
-// All that is asked of one block by itself. `size` is taken from `length` only where it is not larger.
+// Tests all that BadShape asks of one block by itself. It compares `size` with `length` before it subtracts, so nothing wraps.
 pub fn block_ok(
     b: Block,
     granularity: u64,
@@ -64,7 +65,7 @@ pub fn block_ok(
     arena: u64,
     length: u64,
 ) -> bool
-    requires { ⌜ (granularity ≤ 256) × (w ≤ 16384) ⌝ }
+    requires { ⌜ (granularity ≤ 256) × (w ≤ maxSlotWords) ⌝ }
     ensures { λ r. ⌜ r ≡ blockOk granularity poolcount w slots arena length b ⌝ }
 {
     if b.slot >= slots {
@@ -73,7 +74,7 @@ pub fn block_ok(
     if b.pool >= poolcount {
         return false;
     }
-    if b.base % 65536 != 0 {
+    if b.base % sizes::PAGE != 0 {
         return false;
     }
     if b.area == 0 {

@@ -1,11 +1,11 @@
-// What the test for refusal 5, BadShape, asks of creation's numbers in the record and of the lengths of the two slices. It takes any numbers: no sum wraps.
+// Tests creation's numbers in the record and the lengths of the two slices for refusal 5, BadShape. The numbers may be any: no sum wraps.
 use state::State;
 ghost use mathlib.Core.Path.{_≡_};
 ghost use Rattle.state.specs.Shape.{arenaOk, numbersOk};
 ghost use Rattle.shape.specs.Parts.{headOk};
 
-// 2^48, where the arena ends at the latest
-const ADDRESSES: u64 = 281474976710656;
+// Where the arena ends at the latest.
+const ADDRESSES: u64 = 1 << 48;
 
 pub fn arena_ok(base: u64, length: u64) -> bool
     ensures { λ r. ⌜ r ≡ arenaOk base length ⌝ }
@@ -16,10 +16,10 @@ pub fn arena_ok(base: u64, length: u64) -> bool
     if length == 0 {
         return false;
     }
-    if base % 65536 != 0 {
+    if base % sizes::PAGE != 0 {
         return false;
     }
-    if length % 65536 != 0 {
+    if length % sizes::PAGE != 0 {
         return false;
     }
     if base > ADDRESSES {
@@ -48,13 +48,13 @@ fn numbers_ok(s: State) -> bool
     if s.w < 1 {
         return false;
     }
-    if s.w > 16384 {
+    if s.w > state::MAX_SLOT_WORDS {
         return false;
     }
     arena_ok(s.arena, s.length)
 }
 
-// The numbers in the record, and the lengths of the two slices.
+// Tests the numbers in the record, and the lengths of the two slices.
 pub fn head_ok(s: State, used: usize, stop: usize) -> bool
     ensures { λ r. ⌜ r ≡ headOk s used stop ⌝ }
 {
@@ -64,7 +64,7 @@ pub fn head_ok(s: State, used: usize, stop: usize) -> bool
     if s.slots < 1 {
         return false;
     }
-    if s.slots > 64 {
+    if s.slots > state::SLOT_LIMIT {
         return false;
     }
     let words = s.slots * s.w;

@@ -1,5 +1,5 @@
-// The test for refusal 5, BadShape, of a whole record. The definition compares every two blocks; the code walks the blocks once by age and once by
-// address. It takes any numbers: no sum wraps and no index is out of range, whatever the record holds.
+// Tests a whole record for refusal 5, BadShape. The definition compares every two blocks; the code walks the blocks once by age and once
+// by address. Whatever the record holds, no sum wraps and no index is out of range.
 pub mod blocks;
 pub mod creation;
 pub mod pools;
@@ -8,17 +8,18 @@ use sizes::Pool;
 use state::State;
 ghost use mathlib.Core.Path.{_≡_};
 ghost use Prim.Native.Nat.{_≤_};
+ghost use Rattle.sizes.specs.Limits.{slotLimit};
 ghost use Rattle.state.specs.Table.{one, all};
 ghost use Rattle.state.specs.Shape.{goodShape, zeroOk};
 ghost use Rattle.shape.specs.Parts.{tableOk, layoutOk};
 ghost use Rattle.shape.specs.Facts.{Headed, Laid};
 
-// The blocks by age, the pools' records, and the live count, which is at most the used units.
+// Tests each block by age, the pools' records against the blocks, and that the live count is at most the used units.
 pub fn table_ok(s: State) -> bool
     requires { ⌜ Headed s ⌝ }
     ensures { λ r. ⌜ r ≡ tableOk s ⌝ }
 {
-    let mut seen = [false; 64];
+    let mut seen = [false; state::SLOT_LIMIT];
     let mut sums = [Pool::new(s.granularity); 3];
     let mut used: u64 = 0;
     let mut i: usize = 0;
@@ -52,13 +53,13 @@ pub fn table_ok(s: State) -> bool
     s.live <= used
 }
 
-// Zeros behind the last block in both lists.
+// True if both lists have only zeros after the last block.
 fn zeros_ok(s: State) -> bool
-    requires { ⌜ s .count ≤ 64 ⌝ }
-    ensures { λ r. ⌜ r ≡ all 64 (zeroOk s) ⌝ }
+    requires { ⌜ s .count ≤ slotLimit ⌝ }
+    ensures { λ r. ⌜ r ≡ all slotLimit (zeroOk s) ⌝ }
 {
     let mut i = s.count;
-    while i < 64 {
+    while i < state::SLOT_LIMIT {
         if !blocks::is_zero(s.blocks[i]) {
             return false;
         }
@@ -70,8 +71,8 @@ fn zeros_ok(s: State) -> bool
     true
 }
 
-// The address order, and what lies behind the last block. Each block starts at the end of the one before or behind it: so they rise, share no
-// byte, and none comes twice.
+// Tests the address order, and the zeros after the last block. Each block starts at or after the end of the one before: so the blocks rise,
+// share no byte, and none comes twice.
 fn layout_ok(s: State) -> bool
     requires { ⌜ Laid s ⌝ }
     ensures { λ r. ⌜ r ≡ layoutOk s ⌝ }
@@ -93,7 +94,7 @@ fn layout_ok(s: State) -> bool
     zeros_ok(s)
 }
 
-// Not BadShape. `used` and `stop` are the lengths of the two slices.
+// True if the record is not BadShape. `used` and `stop` are the lengths of the two slices.
 pub fn shape_ok(s: State, used: usize, stop: usize) -> bool
     ensures { λ r. ⌜ r ≡ goodShape s used stop ⌝ }
 {

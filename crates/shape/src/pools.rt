@@ -1,4 +1,4 @@
-// What the test for refusal 5, BadShape, asks of the pools' records: that they are like the sums over their blocks.
+// Tests the pools' records for refusal 5, BadShape: each must equal the sums over its blocks.
 use block::Block;
 use sizes::Pool;
 ghost use mathlib.Core.Path.{_≡_};
@@ -17,7 +17,7 @@ fn one_if(t: bool) -> u32
     0
 }
 
-// The pool's sums with one block more.
+// Adds one block to its pool's sums.
 pub fn count_in(q: Pool, b: Block) -> Pool
     requires { ⌜ Countable q b ⌝ }
     ensures { λ r. ⌜ r ≡ counted q b ⌝ }
@@ -50,7 +50,7 @@ fn same_pool(a: Pool, b: Pool) -> bool
     a.used == b.used
 }
 
-// A pool's record is like the sums over its blocks, and no more of them are empty than may be.
+// True if a pool's record equals the sums over its blocks, and at most one of them is empty: none under immediate release.
 pub fn pool_matches(stored: Pool, sums: Pool, immediate: bool) -> bool
     ensures { λ r. ⌜ r ≡ poolMatches stored sums immediate ⌝ }
 {
@@ -63,7 +63,7 @@ pub fn pool_matches(stored: Pool, sums: Pool, immediate: bool) -> bool
     sums.empty <= 1
 }
 
-// Each pool's record is like its sums.
+// True if `pool_matches` holds for each pool.
 pub fn pools_match(stored: [Pool; 3], sums: [Pool; 3], immediate: bool) -> bool
     ensures { λ r. ⌜ r ≡ all 3 (λ p. poolMatches (getD stored p (freshPool 0)) (getD sums p (freshPool 0)) immediate) ⌝ }
 {

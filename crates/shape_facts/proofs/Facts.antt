@@ -8,6 +8,7 @@ use borrow.Author.Tests.{leb-true, ltb-true, eqb-true}
 use lib.Dec.{leb, ltb, eqb}
 use mathlib.Core.List.{List}
 use Rattle.numbers.specs.Pick.{pick}
+use Rattle.numbers.proofs.Bools.{and-left, and-right}
 use Rattle.bits.specs.Bits.{bit}
 use Rattle.slots.specs.Slots.{slotOf}
 use Rattle.block.specs.declared.Block.{Block}
@@ -17,9 +18,8 @@ use Rattle.state.specs.declared.State.{State}
 use Rattle.state.specs.declared.Found.{Found}
 use Rattle.state.specs.declared.Found.the-variants.{At, Nothing}
 use Rattle.state.specs.Table.{blockAt, poolAt}
-use Rattle.state.specs.declared.Held.the-variants.{NoSpan, Units}
+use Rattle.state.specs.declared.Held.the-variants.{NoSpan, Range}
 use Rattle.state.specs.Find.{holds, leastFrom, lookup}
-use Rattle.state.proofs.Tests.{and-left, and-right}
 use Rattle.state.proofs.Find.{Least, least-is, least-of}
 use Rattle.shape.specs.Shaped.{Shaped}
 use Rattle.table.specs.Ordered.{Ordered, Arranged, Slotted}
@@ -38,8 +38,8 @@ module _ (s : State) (u t : ℕ) (f : Shaped s u t) where
   arranged = record {
     ordered = ordered;
     top = f .head .top;
-    arena = f .head .arena-even;
-    length = f .head .length-even;
+    arena = f .head .arena-whole;
+    length = f .head .length-whole;
     base = λ i h. f .sound i h .base;
     some = f .sized;
     low = λ i h. f .sound i h .above;
@@ -101,22 +101,22 @@ found-in s a j e =
 
 -- ---- a span that stands at an address starts there and lies in its block
 module _ (t : List ℕ) (area : ℕ) where
-  up-to-in : (i : ℕ) (r : Found) → Least i (i + (area - i)) (λ k. eqb (bit t k) 1) r → (j e : ℕ) → upTo i r ≡ Units j e → (i ≡ j) × (j < e) × (e ≤ area)
+  up-to-in : (i : ℕ) (r : Found) → Least i (i + (area - i)) (λ k. eqb (bit t k) 1) r → (j e : ℕ) → upTo i r ≡ Range j e → (i ≡ j) × (j < e) × (e ≤ area)
   up-to-in i (At k) q j e z =
       let p : i ≡ j = cc in
       let r : k + 1 ≡ e = cc in
       (p, omega (arith, q .low), omega (arith, q .low, q .high))
   up-to-in i Nothing q j e z = let z : _≡_ {A = ℕ} 0 1 = cc in absurd (omega arith)
 
-  held-at-in : (i : ℕ) (b : Bool) (j e : ℕ) → pick b (upTo i (leastFrom i (area - i) (λ k. eqb (bit t k) 1))) NoSpan ≡ Units j e → (i ≡ j) × (j < e) × (e ≤ area)
+  held-at-in : (i : ℕ) (b : Bool) (j e : ℕ) → pick b (upTo i (leastFrom i (area - i) (λ k. eqb (bit t k) 1))) NoSpan ≡ Range j e → (i ≡ j) × (j < e) × (e ≤ area)
   held-at-in i true j e z = up-to-in i (leastFrom i (area - i) (λ k. eqb (bit t k) 1)) (least-is i (area - i) (λ k. eqb (bit t k) 1)) j e z
   held-at-in i false j e z = let z : _≡_ {A = ℕ} 0 1 = cc in absurd (omega arith)
 
-pub held-is : (w : ℕ) (b : Block) (unit : ℕ) (u t : List ℕ) (a i e : ℕ) → heldOf w b unit u t a ≡ Units i e → (a - b .base ≡ i * unit) × (i < e) × (e ≤ b .area)
+pub held-is : (w : ℕ) (b : Block) (unit : ℕ) (u t : List ℕ) (a i e : ℕ) → heldOf w b unit u t a ≡ Range i e → (a - b .base ≡ i * unit) × (i < e) × (e ≤ b .area)
 held-is w b unit u t a i e z = go (eqb ((a - b .base) % unit) 0) refl z
   where
     go : (c : Bool) → eqb ((a - b .base) % unit) 0 ≡ c
-        → pick c (heldAt (slotOf w (b .slot) u) (slotOf w (b .slot) t) (b .area) ((a - b .base) / unit)) NoSpan ≡ Units i e
+        → pick c (heldAt (slotOf w (b .slot) u) (slotOf w (b .slot) t) (b .area) ((a - b .base) / unit)) NoSpan ≡ Range i e
         → (a - b .base ≡ i * unit) × (i < e) × (e ≤ b .area)
     go true q z =
         let r = held-at-in (slotOf w (b .slot) t) (b .area) ((a - b .base) / unit)
@@ -124,7 +124,7 @@ held-is w b unit u t a i e z = go (eqb ((a - b .base) % unit) 0) refl z
         (omega (arith, div-add-mod' (a - b .base) unit, eqb-true ((a - b .base) % unit) 0 q, ap (λ (n : ℕ). n * unit) (r .0)), r .1, r .2)
     go false q z = let z : _≡_ {A = ℕ} 0 1 = cc in absurd (omega arith)
 
-pub held-in-range : (w : ℕ) (b : Block) (unit : ℕ) (u t : List ℕ) (a i e : ℕ) → heldOf w b unit u t a ≡ Units i e → (i < e) × (e ≤ b .area)
+pub held-in-range : (w : ℕ) (b : Block) (unit : ℕ) (u t : List ℕ) (a i e : ℕ) → heldOf w b unit u t a ≡ Range i e → (i < e) × (e ≤ b .area)
 held-in-range w b unit u t a i e z = let r = held-is w b unit u t a i e z in (r .1, r .2)
 
 -- bytes of some units of a block fit an address

@@ -1,7 +1,7 @@
 -- A block's record is replaced by one that lies in the same place and has the same counts: the state keeps its shape. Assumes nothing.
 use Prim.Native.Nat.{ℕ, _≤_, _<_}
 use mathlib.Core.Bool.{Bool, true, _&&_}
-use mathlib.Core.Path.{_≡_, refl, sym, ap, ap₂, subst, _∙_}
+use mathlib.Core.Path.{_≡_, sym, ap, ap₂, subst, _∙_}
 use native.Mathlib.Omega.{arith}
 use lib.Dec.{eqb}
 use lib.ListN.{length, length-set}
@@ -9,6 +9,7 @@ use lib.Seq.{getD-set-same, getD-set-other}
 use Rattle.numbers.specs.Pick.{pick}
 use Rattle.numbers.proofs.Split.{by-eq}
 use Rattle.block.specs.declared.Block.{Block}
+use Rattle.block.proofs.LiesAs.{LiesAs, lies-refl, lies-trans}
 use Rattle.sizes.specs.declared.Pool.{Pool}
 use Rattle.state.specs.declared.State.{State}
 use Rattle.state.specs.Table.{zeroBlock, blockAt, ageAt, one, only}
@@ -23,16 +24,15 @@ use Rattle.machine.specs.Turn.{putBlock}
 
 -- two records of one block: where it lies, its slot and pool, its counts and whether it is flagged empty are the same
 pub record Same (b c : Block) : Type 0 where
-  pub base : b .base ≡ c .base
-  pub size : b .size ≡ c .size
-  pub pool : b .pool ≡ c .pool
-  pub slot : b .slot ≡ c .slot
-  pub area : b .area ≡ c .area
+  pub lies : LiesAs b c
   pub used : b .used ≡ c .used
   pub empty : isEmpty b ≡ isEmpty c
 
-pub same-refl : (b : Block) → Same b b
-same-refl b = record { base = refl; size = refl; pool = refl; slot = refl; area = refl; used = refl; empty = refl }
+pub same-refl : {b c : Block} → b ≡ c → Same b c
+same-refl e = record { lies = lies-refl e; used = ap (λ (x : Block). x .used) e; empty = ap isEmpty e }
+
+pub same-trans : {a b c : Block} → Same a b → Same b c → Same a c
+same-trans x y = record { lies = lies-trans (x .lies) (y .lies); used = x .used ∙ y .used; empty = x .empty ∙ y .empty }
 
 module _ (s : State) (j : ℕ) (c : Block) (len : length (s .blocks) ≡ 64) where
   -- the blocks afterwards
@@ -53,11 +53,11 @@ module _ (s : State) (j : ℕ) (c : Block) (len : length (s .blocks) ≡ 64) whe
     alike : (i : ℕ) → Same (blockAt (putBlock s j c) i) (blockAt s i)
     alike i =
         by-eq i j
-        (λ e. subst (λ (k : ℕ). Same (blockAt (putBlock s j c) k) (blockAt s k)) (sym e) (subst (λ (b : Block). Same b (blockAt s j)) (sym (put-here below)) like))
-        (λ ne. subst (λ (b : Block). Same b (blockAt s i)) (sym (put-there i ne)) (same-refl (blockAt s i)))
+        (λ e. subst (λ (k : ℕ). Same (blockAt (putBlock s j c) k) (blockAt s k)) (sym e) (same-trans (same-refl (put-here below)) like))
+        (λ ne. same-refl (put-there i ne))
 
     in-pool : (p i : ℕ) → inPool (putBlock s j c) p i ≡ inPool s p i
-    in-pool p i = ap (λ (q : ℕ). eqb q p) (alike i .pool)
+    in-pool p i = ap (λ (q : ℕ). eqb q p) (alike i .lies .pool)
 
     sums : (p : ℕ) → poolSum (putBlock s j c) (s .count) p ≡ poolSum s (s .count) p
     sums p =
@@ -65,7 +65,7 @@ module _ (s : State) (j : ℕ) (c : Block) (len : length (s .blocks) ≡ 64) whe
         let empty = sum-same (s .count) (λ i. one (inPool (putBlock s j c) p i && isEmpty (blockAt (putBlock s j c) i))) (λ i. one (inPool s p i && isEmpty (blockAt s i)))
         (λ i l. ap₂ (λ (a b : Bool). one (a && b)) (in-pool p i) (alike i .empty)) in
         let area = sum-same (s .count) (λ i. only (inPool (putBlock s j c) p i) (blockAt (putBlock s j c) i .area)) (λ i. only (inPool s p i) (blockAt s i .area))
-        (λ i l. ap₂ (λ (a : Bool) (n : ℕ). only a n) (in-pool p i) (alike i .area)) in
+        (λ i l. ap₂ (λ (a : Bool) (n : ℕ). only a n) (in-pool p i) (alike i .lies .area)) in
         let used = sum-same (s .count) (λ i. only (inPool (putBlock s j c) p i) (blockAt (putBlock s j c) i .used)) (λ i. only (inPool s p i) (blockAt s i .used))
         (λ i l. ap₂ (λ (a : Bool) (n : ℕ). only a n) (in-pool p i) (alike i .used)) in
         pool-of (s .granularity) blocks empty area used
@@ -88,9 +88,9 @@ module _ (s : State) (j : ℕ) (c : Block) (len : length (s .blocks) ≡ 64) whe
       w-low = f .head .w-low;
       w-high = f .head .w-high;
       arena-low = f .head .arena-low;
-      arena-even = f .head .arena-even;
+      arena-whole = f .head .arena-whole;
       length-low = f .head .length-low;
-      length-even = f .head .length-even;
+      length-whole = f .head .length-whole;
       top = f .head .top;
       slots-low = f .head .slots-low;
       slots-high = f .head .slots-high;
@@ -104,14 +104,14 @@ module _ (s : State) (j : ℕ) (c : Block) (len : length (s .blocks) ≡ 64) whe
       sound = λ i l. by-eq i j
           (λ e. subst (λ (k : ℕ). ShapedBlockIn s (blockAt (putBlock s j c) k)) (sym e) (subst (ShapedBlockIn s) (sym (put-here below)) sound))
           (λ ne. subst (ShapedBlockIn s) (sym (put-there i ne)) (f .sound i l));
-      slots-apart = λ i k l m e. f .slots-apart i k l m (sym (alike i .slot) ∙ e ∙ alike k .slot);
+      slots-apart = λ i k l m e. f .slots-apart i k l m (sym (alike i .lies .slot) ∙ e ∙ alike k .lies .slot);
       pools = λ p l. f .pools p l ∙ sym (sums p);
       empties = λ p l. subst (λ (n : ℕ). n ≤ pick (s .immediate) 0 1) (sym (ap (λ (q : Pool). q .empty) (sums p))) (f .empties p l);
       live = omega (arith, f .live, sum-same (s .count) (λ i. blockAt (putBlock s j c) i .used) (λ i. blockAt s i .used) (λ i l. alike i .used));
       age-low = f .age-low;
       next = λ i k e l.
-          let a = alike (ageAt s i) in
-          let b = alike (ageAt s k) in
+          let a = alike (ageAt s i) .lies in
+          let b = alike (ageAt s k) .lies in
           omega (arith, a .base, a .size, b .base, f .behind i k (omega arith) l);
       zeros = λ i l m. subst (λ (b : Block). isZero b ≡ true) (sym (put-there i (λ e. omega arith))) (f .zeros i l m);
       zero-ages = f .zero-ages;

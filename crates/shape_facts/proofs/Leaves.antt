@@ -9,7 +9,8 @@ use lib.ListN.{length, List·getD-eq-default}
 use lib.Seq.{getD-set-same, getD-set-other}
 use borrow.Author.Tests.{eqb-true, eq-eqb}
 use Rattle.numbers.specs.Pick.{pick}
-use Rattle.numbers.proofs.Split.{by-le, not-both}
+use Rattle.numbers.proofs.Bools.{not-both}
+use Rattle.numbers.proofs.Split.{by-le}
 use Rattle.block.specs.declared.Block.{Block}
 use Rattle.block.specs.Marking.{emptied, widened, released}
 use Rattle.sizes.specs.declared.Pool.{Pool}

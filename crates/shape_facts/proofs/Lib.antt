@@ -8,5 +8,3 @@ pub mod Leaves
 pub mod Made
 pub mod New
 pub mod Pool
-pub mod Searched
-pub mod Alike

@@ -10,7 +10,7 @@ use Rattle.block.specs.declared.Block.{Block}
 use Rattle.block.specs.Marking.{fresh}
 use Rattle.state.specs.declared.State.{State}
 use Rattle.state.specs.declared.Found.the-variants.{At}
-use Rattle.state.specs.declared.Place.the-variants.{Address}
+use Rattle.state.specs.declared.Place.the-variants.{Base}
 use Rattle.state.specs.Table.{poolAt}
 use Rattle.state.specs.Find.{lowestSlot, lowestPlace}
 use Rattle.shape.specs.Shaped.{Shaped}
@@ -39,7 +39,7 @@ module _ (s : State) (u t p n bytes : ℕ) (m : Makes s u t p n bytes) where
   pub span-fits : n ≤ unitsOf bytes unit
   span-fits = le-of-mul-le-mul-right {m = n} {n = unitsOf bytes unit} {k = unit} (omega (arith, m .fits, units-hold bytes unit (omega (arith, unit-low)))) (omega (arith, unit-low))
 
-  module _ (at k : ℕ) (ea : Address at ≡ lowestPlace s bytes) (ek : At k ≡ lowestSlot s) (words : unitsOf (unitsOf bytes unit) 32 ≤ s .w)
+  module _ (at k : ℕ) (ea : Base at ≡ lowestPlace s bytes) (ek : At k ≡ lowestSlot s) (words : unitsOf (unitsOf bytes unit) 32 ≤ s .w)
       (blocks : length (s .blocks) ≡ 64) (order : length (s .order) ≡ 64) (pools : length (s .pools) ≡ 3) where
     abbrev new : Block
     new = fresh at bytes p k (unitsOf bytes unit) n

@@ -10,7 +10,7 @@ use borrow.Author.Tests.{eq-eqb}
 use lib.Dec.{eqb}
 use lib.ListN.{getD}
 use Rattle.numbers.specs.Units.{unitsOf}
-use Rattle.numbers.proofs.Units.{units-even}
+use Rattle.numbers.proofs.Units.{units-whole}
 use Rattle.block.specs.Record.{Placed}
 use Rattle.sizes.specs.declared.Pool.{Pool}
 use Rattle.sizes.specs.Limits.{isGranularity}
@@ -64,8 +64,8 @@ module _ (s : State) (u t bytes : ℕ) (m : Allocates s u t bytes) where
   -- the units are the bytes
   pub whole : n * unit ≡ bytes
   whole =
-      let e : bytes % unit ≡ 0 = ap (λ (k : ℕ). bytes % k) unit-is ∙ m .even in
-      ap (λ (k : ℕ). k * unit) (units-even bytes unit (omega (arith, unit-some)) e) ∙ omega (arith, div-add-mod' bytes unit, e)
+      let e : bytes % unit ≡ 0 = ap (λ (k : ℕ). bytes % k) unit-is ∙ m .whole in
+      ap (λ (k : ℕ). k * unit) (units-whole bytes unit (omega (arith, unit-some)) e) ∙ omega (arith, div-add-mod' bytes unit, e)
 
   pub some-units : 0 < n
   some-units = positive n unit bytes whole (m .some)

@@ -7,17 +7,18 @@ use native.Mathlib.Omega.{arith}
 use borrow.Author.Tests.{leb-true, eq-eqb}
 use lib.Dec.{leb, eqb}
 use lib.ListN.{length, List·getD-eq-default}
-use Rattle.numbers.proofs.Split.{by-le, not-both}
+use Rattle.numbers.proofs.Bools.{not-both, and-left}
+use Rattle.numbers.proofs.Split.{by-le}
 use Rattle.block.specs.declared.Block.{Block}
 use Rattle.sizes.specs.declared.Pool.{Pool}
 use Rattle.state.specs.declared.State.{State}
 use Rattle.state.specs.declared.Found.{Found}
 use Rattle.state.specs.declared.Found.the-variants.{At, Nothing}
-use Rattle.state.specs.declared.Place.the-variants.{Address}
+use Rattle.state.specs.declared.Place.the-variants.{Base}
 use Rattle.state.specs.Table.{blockAt, poolAt, all, one, only}
 use Rattle.state.specs.Shape.{inPool}
 use Rattle.state.specs.Find.{least, slotFree, lowestSlot, placeAt, placeFree, placed, lowestPlace, clear}
-use Rattle.state.proofs.Tests.{and-left, all-at, sum-bound}
+use Rattle.state.proofs.Tests.{all-at, sum-bound}
 use Rattle.state.proofs.Find.{Least, least-of}
 use Rattle.shape.specs.Shaped.{Shaped}
 use Rattle.shape.proofs.Pigeon.{each-once, place}
@@ -31,10 +32,10 @@ slot-is s k e =
     (q .high, q .passes)
 
 -- the lowest place holds the block within the arena
-pub place-in : (s : State) (size a : ℕ) → Address a ≡ lowestPlace s size → a + size ≤ s .arena + s .length
+pub place-in : (s : State) (size a : ℕ) → Base a ≡ lowestPlace s size → a + size ≤ s .arena + s .length
 place-in s size a e = go (least (s .length / 65536) (placeFree s size)) (least-of (s .length / 65536) (placeFree s size)) e
   where
-    go : (r : Found) → Least 0 (s .length / 65536) (placeFree s size) r → Address a ≡ placed s r → a + size ≤ s .arena + s .length
+    go : (r : Found) → Least 0 (s .length / 65536) (placeFree s size) r → Base a ≡ placed s r → a + size ≤ s .arena + s .length
     go (At k) q z =
         let at : a ≡ placeAt s k = cc in
         omega (arith, at, leb-true (placeAt s k + size) (s .arena + s .length) (and-left (leb (placeAt s k + size) (s .arena + s .length)) (all (s .count) (λ i. clear (blockAt s i) (placeAt s k) size)) (q .passes)))

@@ -21,6 +21,7 @@ use Rattle.block.specs.declared.Looked.{Looked}
 use Rattle.block.specs.declared.Looked.the-variants.{Found, Missed}
 use Rattle.block.specs.Search.{isDirty, worthSearching, looked, tightened, lookInto}
 use Rattle.block.proofs.Flags.{empty-kept, off-le}
+use Rattle.block.proofs.LiesAs.{numbers-lie}
 use Rattle.state.specs.declared.State.{State}
 use Rattle.state.specs.declared.Hit.{Hit}
 use Rattle.state.specs.declared.Hit.the-variants.{At, Nowhere}
@@ -31,7 +32,7 @@ use Rattle.shape.specs.Facts.{ShapedBlockIn}
 use Rattle.shape.specs.Shaped.{Shaped}
 use Rattle.machine.specs.Turn.{putBlock}
 use Rattle.machine.specs.Alloc.{searched, after, searchFrom, searchPool}
-use Rattle.shape_facts.proofs.Keep.{Same, same-refl, put-here, put-there, put-length, put-shaped}
+use Rattle.shape_facts.proofs.Keep.{Same, same-refl, same-trans, put-here, put-there, put-length, put-shaped}
 
 -- ---- a look into one block
 -- a place was found: it lies in the block, and the used count leaves room for it
@@ -70,7 +71,7 @@ told w b u n pos h g =
     told-pick b (slotOf w (b .slot) u) n pos h g (worthSearching b n) refl (seek (slotOf w (b .slot) u) (b .start) (b .end) n) (seek-is (slotOf w (b .slot) u) (b .start) (b .end) n pos)
 
 tight-same : (b : Block) (f l m : ℕ) → Same (tightened b f l m) b
-tight-same b f l m = record { base = refl; size = refl; pool = refl; slot = refl; area = refl; used = refl; empty = empty-kept (b .flags) }
+tight-same b f l m = record { lies = numbers-lie b _ _ _ _ _; used = refl; empty = empty-kept (b .flags) }
 
 tight-sound : (s : State) (b : Block) (f l m : ℕ) → ShapedBlockIn s b → f ≤ b .area → l ≤ b .area → m ≤ b .area → ShapedBlockIn s (tightened b f l m)
 tight-sound s b f l m q x y z = record {
@@ -78,7 +79,7 @@ tight-sound s b f l m q x y z = record {
   pool = q .pool;
   base = q .base;
   area-low = q .area-low;
-  area-even = q .area-even;
+  area-whole = q .area-whole;
   area-size = q .area-size;
   area-high = q .area-high;
   used = q .used;
@@ -109,17 +110,6 @@ module _ (u : List ℕ) (t p n : ℕ) (pos : 0 < n) where
     pub alike : (i : ℕ) → Same (blockAt (r .state) i) (blockAt s i)
     pub place : Place (r .state) (r .hit)
 
-  same-trans : {a b c : Block} → Same a b → Same b c → Same a c
-  same-trans x y = record {
-    base = x .base ∙ y .base;
-    size = x .size ∙ y .size;
-    pool = x .pool ∙ y .pool;
-    slot = x .slot ∙ y .slot;
-    area = x .area ∙ y .area;
-    used = x .used ∙ y .used;
-    empty = x .empty ∙ y .empty;
-  }
-
   left-trans : {s m : State} {r : Searched} → Left m r → m .order ≡ s .order → m .pools ≡ s .pools → m .count ≡ s .count → m .live ≡ s .live
       → ((i : ℕ) → Same (blockAt m i) (blockAt s i)) → Left s r
   left-trans q o e c l f = record {
@@ -141,7 +131,7 @@ module _ (u : List ℕ) (t p n : ℕ) (pos : 0 < n) where
     pools = refl;
     count = refl;
     live = refl;
-    alike = λ i. same-refl (blockAt s i);
+    alike = λ i. same-refl refl;
     place = q;
   }
 
@@ -155,17 +145,17 @@ module _ (u : List ℕ) (t p n : ℕ) (pos : 0 < n) where
       left-trans (ih (putBlock s i c) refl (put-shaped s i c len (length u) t f h like sound) (put-length s i c len)) refl refl refl refl
       (λ k. by-eq k i
       (λ e. subst (λ (m : ℕ). Same (blockAt (putBlock s i c) m) (blockAt s m)) (sym e)
-      (subst (λ (b : Block). Same b (blockAt s i)) (sym (put-here s i c len (omega (arith, h, f .head .count-slots, f .head .slots-high)))) like))
-      (λ ne. subst (λ (b : Block). Same b (blockAt s k)) (sym (put-there s i c len k ne)) (same-refl (blockAt s k))))
+      (same-trans (same-refl (put-here s i c len (omega (arith, h, f .head .count-slots, f .head .slots-high)))) like))
+      (λ ne. same-refl (put-there s i c len k ne)))
 
   -- one block more
   after-left : (s : State) (i : ℕ) (rest : State → Searched) → Rest rest (s .count) → Shaped s (length u) t → length (s .blocks) ≡ 64 → i < s .count
       → blockAt s i .pool ≡ p → (l : Looked) → lookInto (s .w) (blockAt s i) u n ≡ l → Told (blockAt s i) n l → Left s (after s i rest l)
   after-left s i rest ih f len h e (Found unit) z q = left-here s f len (At i unit) (h, e, q, z)
-  after-left s i rest ih f len h e (Missed c) z (inl same) = moved s i c rest ih f len h (subst (λ (b : Block). Same b (blockAt s i)) (sym same) (same-refl (blockAt s i)))
+  after-left s i rest ih f len h e (Missed c) z (inl same) = moved s i c rest ih f len h (same-refl same)
       (subst (ShapedBlockIn s) (sym same) (f .sound i h))
   after-left s i rest ih f len h e (Missed c) z (inr q) = moved s i c rest ih f len h
-      (subst (λ (b : Block). Same b (blockAt s i)) (sym (q .3)) (tight-same (blockAt s i) (q .0) (q .1) (q .2)))
+      (same-trans (same-refl (q .3)) (tight-same (blockAt s i) (q .0) (q .1) (q .2)))
       (subst (ShapedBlockIn s) (sym (q .3)) (tight-sound s (blockAt s i) (q .0) (q .1) (q .2) (f .sound i h) (q .4) (q .5) (q .6)))
 
   from-left : (i k : ℕ) (s : State) → i + k ≡ s .count → Shaped s (length u) t → length (s .blocks) ≡ 64 → Left s (searchFrom u p n i k s)

@@ -1,8 +1,9 @@
--- What the parts of the calls ask for, each shown of a good shape by its caller. Assumes nothing.
+-- What the functions that the calls are made of require. Their callers show it of a good shape. Assumes nothing.
 use Prim.Native.Nat.{ℕ, _+_, _*_, _%_, _^_, _≤_, _<_}
 use mathlib.Core.Bool.{false}
 use mathlib.Core.Path.{_≡_}
 use lib.ListN.{length}
+use Rattle.sizes.specs.Limits.{maxSize, slotLimit}
 use Rattle.block.specs.declared.Block.{Block}
 use Rattle.block.specs.Record.{Placed}
 use Rattle.state.specs.declared.State.{State}
@@ -13,12 +14,12 @@ use Rattle.shape.specs.Shaped.{Shaped}
 use Rattle.machine.specs.Turn.{unitOf}
 
 -- ---- before a span is marked
--- n units from unit i on of block j lie in it, the counts leave room for them, and the sums stay in range
-pub record Markable (s : State) (usedWords stopWords j i n : ℕ) : Type 0 where
-  pub age : j < 64
+-- n units from unit `from` on of block j lie in it, the counts leave room for them, and the sums stay in range
+pub record Markable (s : State) (usedWords stopWords j from n : ℕ) : Type 0 where
+  pub age : j < slotLimit
   pub placed : Placed (blockAt s j) (s .w) usedWords stopWords
   pub some : 0 < n
-  pub fits : i + n ≤ blockAt s j .area
+  pub fits : from + n ≤ blockAt s j .area
   pub room : blockAt s j .used + n ≤ blockAt s j .area
   pub pool : blockAt s j .pool < 3
   pub few : blockAt s j .area < 2 ^ 32
@@ -28,10 +29,10 @@ pub record Markable (s : State) (usedWords stopWords j i n : ℕ) : Type 0 where
   pub live : s .live + 1 < 2 ^ 64
 
 -- ---- before a block is made for a span
--- a new block b enters the table, and its slot is one of those in force
+-- the new block b may enter the table, and its slot is one of the allocator's
 pub record Makeable (s : State) (usedWords stopWords : ℕ) (b : Block) (n : ℕ) : Type 0 where
   pub enters : Insertable s b
-  pub size : length (s .blocks) ≡ 64
+  pub size : length (s .blocks) ≡ slotLimit
   pub pools : length (s .pools) ≡ 3
   pub placed : Placed b (s .w) usedWords stopWords
   pub some : 0 < n
@@ -43,7 +44,7 @@ pub record Makeable (s : State) (usedWords stopWords : ℕ) (b : Block) (n : ℕ
   pub used : poolAt s (b .pool) .used + n < 2 ^ 32
   pub live : s .live + 1 < 2 ^ 64
 
--- a pool of a state of good shape may get a block of so many bytes, which hold n units
+-- the shape is good, and pool p may get a block of so many bytes, which hold n units
 pub record Makes (s : State) (usedWords stopWords p n bytes : ℕ) : Type 0 where
   pub shaped : Shaped s usedWords stopWords
   pub pool : p < 3
@@ -53,12 +54,12 @@ pub record Makes (s : State) (usedWords stopWords p n bytes : ℕ) : Type 0 wher
   pub fits : n * poolAt s p .granularity ≤ bytes
 
 -- ---- of a rounded size
--- a rounded size that is not refused, of a state of good shape
+-- the shape is good, and the size is rounded and not refused
 pub record Allocates (s : State) (usedWords stopWords bytes : ℕ) : Type 0 where
   pub shaped : Shaped s usedWords stopWords
   pub some : 0 < bytes
-  pub most : bytes ≤ 2147483647
-  pub even : bytes % s .granularity ≡ 0
+  pub most : bytes ≤ maxSize
+  pub whole : bytes % s .granularity ≡ 0
 
 -- ---- before a block settles
 -- the block may leave the table, and its slot lies within both maps

@@ -8,12 +8,11 @@ use native.Mathlib.Omega.{arith}
 use borrow.Author.Tests.{leb-true, leb-false, ne-eqb, eq-eqb}
 use lib.Dec.{eqb}
 use lib.ListN.{length}
+use Rattle.numbers.proofs.Bools.{not-both, by-bool}
 use Rattle.numbers.proofs.Units.{units-hold}
-use Rattle.numbers.proofs.Split.{not-both}
 use Rattle.block.specs.declared.Block.{Block}
 use Rattle.block.specs.Marking.{released, widened}
 use Rattle.sizes.proofs.Pools.{pool-below}
-use Rattle.sizes.proofs.Cases.{by-test}
 use Rattle.state.specs.declared.State.{State}
 use Rattle.state.specs.declared.Hit.the-variants.{At}
 use Rattle.state.specs.declared.Refusal.{Refusal}
@@ -27,21 +26,21 @@ use Rattle.shape_facts.proofs.Facts.{count-64, unit-g, pool-3, found-in, held-i
 use Rattle.shape_facts.proofs.Search.{Place}
 use Rattle.shape_facts.proofs.Pool.{whole, units-kept}
 use Rattle.machine.specs.Turn.{Turn, withLive, unitOf}
-use Rattle.machine.specs.Alloc.{allocMarked, allocMade}
+use Rattle.machine.specs.Alloc.{poolFor, unitsFor, searchFor, newSize, allocMarked, allocMade}
 use Rattle.machine.specs.Release.{lessUsed, releaseUnits}
 use Rattle.machine.specs.Shrink.{shrinkTail}
 use Rattle.machine.specs.Reset.{resetTurn}
 use Rattle.machine.specs.Create.{Asked, slotsOf, grantable, freshState}
 use Rattle.machine.specs.Machine.{Call, create, alloc, release, shrink, query, softReset, hardReset, step}
+use Rattle.machine.proofs.Cases.{FreesSpan, Cuts, Seeks, Places, settle-cases, create-cases, query-cases, release-cases, shrink-cases, reset-cases, alloc-cases, freed-answer}
+use Rattle.machine.proofs.Searched.{search-other}
 use Rattle.shape_kept.specs.Sized.{Sized}
 use Rattle.shape_kept.specs.Closed.{Good, Frees, Freed, LiveAbove, Closed}
 use Rattle.shape_kept.proofs.After.{less-block}
 use Rattle.shape_kept.proofs.Head.{good-same}
-use Rattle.shape_kept.proofs.Cases.{FreesSpan, Cuts, Seeks, Places, poolFor, unitsFor, searchFor, newSize, settle-cases, create-cases, query-cases, release-cases, shrink-cases, reset-cases, alloc-cases}
 use Rattle.shape_kept.proofs.Sized.{sized-search}
 use Rattle.shape_kept.proofs.Words.{created-long, words-kept}
 use Rattle.shape_kept.proofs.Request.{seeks-ready, seeks-some, seeks-left}
-use Rattle.shape_facts.proofs.Searched.{search-other}
 use Rattle.shape_kept.proofs.Records.{Changed, released-changed, widened-changed}
 use Rattle.shape_kept.proofs.Mark.{mark-good}
 use Rattle.shape_kept.proofs.Make.{make-good}
@@ -146,16 +145,16 @@ module _ (s : State) (u t : List ℕ) (z : Sized s) where
 
     alloc-keeps : (size : ℕ) → Keeps u t (step s u t (alloc size))
     alloc-keeps size =
-        alloc-cases (Keeps u t) s u t (λ why. good) size (full s u t z size)
-        (λ bytes j i k e. hit s u t z size bytes k j i e) (λ bytes at slot k m. make s u t z size bytes k at slot m)
+        alloc-cases (Keeps u t) s u t size (λ why early cond. good) (λ bytes k miss short. full s u t z size bytes k)
+        (λ bytes j i k e. hit s u t z size bytes k j i e) (λ bytes at slot k miss m. make s u t z size bytes k at slot m)
 
     query-keeps : (a : ℕ) → Keeps u t (step s u t (query a))
-    query-keeps a = query-cases (Keeps u t) s u t (λ why. good) a (λ j i e k. good)
+    query-keeps a = query-cases (Keeps u t) s u t a (λ why cond. good) (λ j i e k. good)
 
     reset-keeps : (hard : Bool) → Keeps u t (resetTurn s u t hard)
     reset-keeps hard =
         let f = shaped-is s (length u) (length t) good in
-        reset-cases (Keeps u t) s u t (λ why. good) hard (λ e. empty-good s (length u) (length t) (f .head) (f .lent))
+        reset-cases (Keeps u t) s u t hard (λ bad. good) (λ e. empty-good s (length u) (length t) (f .head) (f .lent))
         (λ e off. kept-good s (length u) (length t) f off (s .count) (omega arith))
 
     -- ---- the two that make units free, with no premise: kept, or granted with live above used
@@ -165,19 +164,16 @@ module _ (s : State) (u t : List ℕ) (z : Sized s) where
     decide : (x : Turn) → Freed (x .answer) → KeepsIf u t x → Either x
     decide x granted f =
         let r = x .state in
-        by-test (liveOk r) (λ e. inl (f e)) (λ e. inr (granted, leb-false (r .live) (sum (r .count) (λ i. blockAt r i .used)) e))
-
-    granted-free : (a j i e : ℕ) → Freed (releaseUnits s u t a j i e .answer)
-    granted-free a j i e =
-        settle-cases (λ x. Freed (x .answer)) (withLive (lessUsed s j (released (blockAt s j) i e) (e - i)) (s .live - 1)) _ _ _ j
-        (λ ne. tt) (λ none goes. tt) (λ none kept off. tt)
+        by-bool (liveOk r) (λ e. inl (f e)) (λ e. inr (granted, leb-false (r .live) (sum (r .count) (λ i. blockAt r i .used)) e))
 
     release-either : (a : ℕ) → Either (step s u t (release a))
-    release-either a = release-cases Either s u t (λ why. inl good) a (λ j i e k. decide (releaseUnits s u t a j i e) (granted-free a j i e) (freed a j i e k))
+    release-either a =
+        release-cases Either s u t a (λ why cond. inl good)
+        (λ j i e k. decide (releaseUnits s u t a j i e) (subst Freed (sym (freed-answer s u t a j i e)) tt) (freed a j i e k))
 
     shrink-either : (a size : ℕ) → Either (step s u t (shrink a size))
     shrink-either a size =
-        shrink-cases Either s u t (λ why. inl good) a size (release-either a) (λ j i e n k same. inl good) (λ j i e n k. decide (shrinkTail s u t a j i e n) tt (cut a size j i e n k))
+        shrink-cases Either s u t a size (λ why cond. inl good) (λ none. release-either a) (λ j i e n k same. inl good) (λ j i e n k. decide (shrinkTail s u t a j i e n) tt (cut a size j i e n k))
 
     -- with the words as they are afterwards
     as-left : (c : Call) → Keeps u t (step s u t c) → Good (step s u t c)

@@ -8,13 +8,13 @@ use borrow.Author.Tests.{leb-true}
 use lib.Dec.{leb, eqb}
 use lib.ListN.{length}
 use Rattle.numbers.specs.Pick.{pick}
+use Rattle.numbers.proofs.Bools.{picked, and-both}
 use Rattle.block.specs.declared.Block.{Block}
 use Rattle.sizes.proofs.InForce.{granularity-in-force-good, base-size-in-force-good}
-use Rattle.sizes.proofs.Cases.{picked}
 use Rattle.state.specs.declared.State.{State}
 use Rattle.state.specs.Table.{sum}
 use Rattle.state.specs.Shape.{isZero, arenaOk, numbersOk, goodShape}
-use Rattle.state.proofs.Tests.{and-both, every-at}
+use Rattle.state.proofs.Tests.{every-at}
 use Rattle.shape.specs.Parts.{headOk}
 use Rattle.shape.specs.Facts.{Headed, Lent}
 use Rattle.shape.proofs.Head.{headed, lent, head-of}

@@ -25,9 +25,9 @@ module _ (s : State) (live count : ℕ) (blocks : List Block) (order : List ℕ)
     w-low = f .w-low;
     w-high = f .w-high;
     arena-low = f .arena-low;
-    arena-even = f .arena-even;
+    arena-whole = f .arena-whole;
     length-low = f .length-low;
-    length-even = f .length-even;
+    length-whole = f .length-whole;
     top = f .top;
     slots-low = f .slots-low;
     slots-high = f .slots-high;

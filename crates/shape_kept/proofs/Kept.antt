@@ -7,10 +7,10 @@ use native.Mathlib.Omega.{arith}
 use borrow.Author.Tests.{eqb-false, ne-eqb, not-true}
 use lib.Dec.{eqb}
 use Rattle.numbers.specs.Pick.{pick}
+use Rattle.numbers.proofs.Bools.{picked}
 use Rattle.block.specs.declared.Block.{Block}
 use Rattle.block.specs.Marking.{emptied}
 use Rattle.sizes.specs.declared.Pool.{Pool}
-use Rattle.sizes.proofs.Cases.{picked}
 use Rattle.state.specs.declared.State.{State}
 use Rattle.state.specs.Table.{blockAt, poolAt, one}
 use Rattle.state.specs.Shape.{isEmpty, inPool, goodShape}

@@ -1,6 +1,5 @@
 pub mod Sums
 pub mod After
-pub mod Cases
 pub mod Sized
 pub mod Soft
 pub mod Request

@@ -10,6 +10,7 @@ use borrow.Author.Tests.{eqb-false, not-true}
 use lib.Dec.{leb, ltb, eqb}
 use Rattle.numbers.specs.Pick.{pick}
 use Rattle.numbers.specs.Units.{unitsOf, bytesOf}
+use Rattle.numbers.proofs.Bools.{and-right}
 use Rattle.numbers.proofs.Units.{units-exact}
 use Rattle.block.specs.declared.Block.{Block}
 use Rattle.block.specs.Marking.{fresh, marked}
@@ -20,12 +21,12 @@ use Rattle.sizes.proofs.Sizes.{ideal-words}
 use Rattle.state.specs.declared.State.{State}
 use Rattle.state.specs.declared.Found.{Found}
 use Rattle.state.specs.declared.Found.the-variants.{At, Nothing}
-use Rattle.state.specs.declared.Place.the-variants.{Address}
+use Rattle.state.specs.declared.Place.the-variants.{Base}
 use Rattle.state.specs.Table.{blockAt, ageAt, poolAt, all, one}
 use Rattle.state.specs.Shape.{isEmpty, goodShape}
 use Rattle.state.specs.Find.{least, latest, lowestPlace, placeAt, placeFree, placed, clear, newestSize, sizeOr}
 use Rattle.state.specs.Change.{orElse, placeOf, movedUp, withBlocks, inserted}
-use Rattle.state.proofs.Tests.{and-right, all-at}
+use Rattle.state.proofs.Tests.{all-at}
 use Rattle.state.proofs.Find.{Least, least-of, Latest, latest-of}
 use Rattle.shape.specs.Shaped.{Shaped}
 use Rattle.shape.proofs.Address.{Apart, apart-is}
@@ -35,25 +36,25 @@ use Rattle.shape_facts.specs.Ready.{Makeable}
 use Rattle.shape_facts.proofs.Pool.{g-good, newest-asked, new-ready}
 use Rattle.shape_facts.proofs.New.{makeable}
 use Rattle.machine.specs.Turn.{putBlock, putPool, withCounts}
-use Rattle.machine.specs.Alloc.{allocMade}
+use Rattle.machine.specs.Alloc.{newSize, allocMade}
+use Rattle.machine.proofs.Cases.{Places}
 use Rattle.shape_kept.specs.Sized.{Sized}
 use Rattle.shape_kept.proofs.After.{put-block, put-block-other, put-pool, put-pool-other, inserted-new, inserted-old, inserted-age, inserted-pool, inserted-pool-other}
-use Rattle.shape_kept.proofs.Cases.{Places, newSize}
 use Rattle.shape_kept.proofs.Sized.{sized-block, sized-inserted}
 use Rattle.shape_kept.proofs.Pools.{Entered, empties-before}
 use Rattle.shape_kept.proofs.Enter.{enter-good}
 use Rattle.shape_kept.proofs.Records.{Bare, Changed, marked-changed}
 
 -- ---- the place that was found
-pub place-found : (s : State) (size at : ℕ) → Address at ≡ lowestPlace s size → (k : ℕ) × (at ≡ placeAt s k) × (placeFree s size k ≡ true)
+pub place-found : (s : State) (size at : ℕ) → Base at ≡ lowestPlace s size → (k : ℕ) × (at ≡ placeAt s k) × (placeFree s size k ≡ true)
 place-found s size at e = go (least (s .length / 65536) (placeFree s size)) (least-of (s .length / 65536) (placeFree s size)) e
   where
-    go : (r : Found) → Least 0 (s .length / 65536) (placeFree s size) r → Address at ≡ placed s r → (k : ℕ) × (at ≡ placeAt s k) × (placeFree s size k ≡ true)
+    go : (r : Found) → Least 0 (s .length / 65536) (placeFree s size) r → Base at ≡ placed s r → (k : ℕ) × (at ≡ placeAt s k) × (placeFree s size k ≡ true)
     go (At k) q z = let is : at ≡ placeAt s k = cc in (k, is, q .passes)
     go Nothing q z = let z : _≡_ {A = ℕ} 0 1 = cc in absurd (omega arith)
 
 -- a block there shares no byte with a standing one
-pub place-apart : (s : State) (b : Block) → Address (b .base) ≡ lowestPlace s (b .size) → (i : ℕ) → i < s .count → Apart (blockAt s i) b
+pub place-apart : (s : State) (b : Block) → Base (b .base) ≡ lowestPlace s (b .size) → (i : ℕ) → i < s .count → Apart (blockAt s i) b
 place-apart s b e i l =
     let q = place-found s (b .size) (b .base) e in
     let free = and-right (leb (placeAt s (q .0) + b .size) (s .arena + s .length)) (all (s .count) (λ x. clear (blockAt s x) (placeAt s (q .0)) (b .size))) (q .2) in
@@ -65,25 +66,25 @@ module _ (s : State) (v w : ℕ) (f : Shaped s v w) where
   good : isGranularity (s .granularity) ≡ true
   good = g-good (s .granularity) (f .head .g-listed)
 
-  newest-even : (p : ℕ) → newestSize s p % (32 * s .granularity) ≡ 0
-  newest-even p = go (latest (s .count) (λ i. eqb (blockAt s i .pool) p)) (latest-of (s .count) (λ i. eqb (blockAt s i .pool) p))
+  newest-whole : (p : ℕ) → newestSize s p % (32 * s .granularity) ≡ 0
+  newest-whole p = go (latest (s .count) (λ i. eqb (blockAt s i .pool) p)) (latest-of (s .count) (λ i. eqb (blockAt s i .pool) p))
     where
       go : (x : Found) → Latest (s .count) (λ i. eqb (blockAt s i .pool) p) x → sizeOr s x % (32 * s .granularity) ≡ 0
       go (At i) q =
           let b = f .sound i (q .high) in
           let area = blockAt s i .area in
-          let whole : area ≡ area / 32 * 32 = omega (arith, b .area-even) in
+          let whole : area ≡ area / 32 * 32 = omega (arith, b .area-whole) in
           let is : blockAt s i .size ≡ area / 32 * (32 * s .granularity) = sym (b .area-size) ∙ ap (λ (n : ℕ). n * s .granularity) whole ∙ omega arith in
           ap (λ (n : ℕ). n % (32 * s .granularity)) is ∙ mul-mod-left (area / 32) (32 * s .granularity)
       go Nothing q =
           let r = granularity-is (s .granularity) good in
           ap (λ (n : ℕ). s .size % n) (granularity-word (s .granularity) good) ∙ base-size-divides (s .size) (5 + r .exponent) (f .head .size-good) (omega (arith, r .high))
 
-  new-even : (p bytes : ℕ) → bytes ≤ 2147483647 → newSize s p bytes % (32 * s .granularity) ≡ 0
-  new-even p bytes h =
+  new-whole : (p bytes : ℕ) → bytes ≤ 2147483647 → newSize s p bytes % (32 * s .granularity) ≡ 0
+  new-whole p bytes h =
       let r = granularity-is (s .granularity) good in
       let a = newest-asked s v w p bytes f h in
-      ideal-words (newestSize s p) bytes (a .0) (a .1) (a .2) (s .granularity) (5 + r .exponent) (omega (arith, r .high)) (granularity-word (s .granularity) good) (newest-even p)
+      ideal-words (newestSize s p) bytes (a .0) (a .1) (a .2) (s .granularity) (5 + r .exponent) (omega (arith, r .high)) (granularity-word (s .granularity) good) (newest-whole p)
 
 module _ (s : State) (v w : ℕ) (f : Shaped s v w) (z : Sized s) (p n bytes at slot : ℕ) (p-low : p < s .poolcount) (some : 0 < n)
     (asked : 0 < bytes) (most : bytes ≤ 2147483647) (fits : n * poolAt s p .granularity ≤ bytes) (k : Places s p bytes at slot) where
@@ -110,7 +111,7 @@ module _ (s : State) (v w : ℕ) (f : Shaped s v w) (z : Sized s) (p n bytes at 
   words = size / (32 * s .granularity)
 
   size-is : size ≡ bytesOf (words * 32) (s .granularity)
-  size-is = omega (arith, div-add-mod' size (32 * s .granularity), new-even s v w f p bytes most)
+  size-is = omega (arith, div-add-mod' size (32 * s .granularity), new-whole s v w f p bytes most)
 
   area-is : area ≡ words * 32
   area-is =
@@ -123,9 +124,9 @@ module _ (s : State) (v w : ℕ) (f : Shaped s v w) (z : Sized s) (p n bytes at 
       record {
         slot = slot-is s slot (k .free) .0;
         pool = p-low;
-        base = omega (arith, q .1, f .head .arena-even);
+        base = omega (arith, q .1, f .head .arena-whole);
         area-low = omega (arith, ready .fits);
-        area-even = omega (arith, area-is);
+        area-whole = omega (arith, area-is);
         area-size = ap (λ (x : ℕ). x * s .granularity) area-is ∙ sym size-is;
         area-high = ready .placed .area;
         start = ready .fits;

@@ -8,6 +8,7 @@ use lib.ListN.{getD}
 use Rattle.numbers.specs.Pick.{pick}
 use Rattle.numbers.proofs.Split.{by-eq}
 use Rattle.block.specs.declared.Block.{Block}
+use Rattle.block.proofs.LiesAs.{LiesAs, lies-refl, lies-trans}
 use Rattle.sizes.specs.declared.Pool.{Pool}
 use Rattle.sizes.specs.Pools.{freshPool}
 use Rattle.state.specs.declared.State.{State}
@@ -22,20 +23,9 @@ use Rattle.shape_kept.proofs.Sums.{sum-put}
 use Rattle.shape_kept.proofs.Head.{head-kept, lent-kept}
 use Rattle.shape_kept.proofs.Pools.{blocksIn, emptyIn, areaIn, usedIn, adds, Recounted, recounted, pool-after, empties-after, few-after}
 
--- two records of one block: where it lies, its slot and its pool
-pub record Lies (b c : Block) : Type 0 where
-  pub base : b .base ≡ c .base
-  pub size : b .size ≡ c .size
-  pub pool : b .pool ≡ c .pool
-  pub slot : b .slot ≡ c .slot
-  pub area : b .area ≡ c .area
-
-pub lies-refl : (b : Block) → Lies b b
-lies-refl b = record { base = refl; size = refl; pool = refl; slot = refl; area = refl }
-
 module _ (s : State) (u t : ℕ) (f : Shaped s u t) (j : ℕ) (h : j < s .count) (b : Block) (live : ℕ) (blocks : List Block) (pool : List Pool)
     (here : getD blocks j zeroBlock ≡ b) (there : (i : ℕ) → (i ≡ j → ⊥) → getD blocks i zeroBlock ≡ blockAt s i)
-    (lies : Lies b (blockAt s j)) (sound : ShapedBlockIn s b)
+    (lies : LiesAs b (blockAt s j)) (sound : ShapedBlockIn s b)
     (own : Recounted (poolAt s (blockAt s j .pool)) (getD pool (blockAt s j .pool) (freshPool 0)) (blockAt s j) b)
     (other : (p : ℕ) → (p ≡ blockAt s j .pool → ⊥) → getD pool p (freshPool 0) ≡ poolAt s p)
     (few : getD pool (blockAt s j .pool) (freshPool 0) .empty ≤ pick (s .immediate) 0 1) where
@@ -43,11 +33,11 @@ module _ (s : State) (u t : ℕ) (f : Shaped s u t) (j : ℕ) (h : j < s .count)
   after = withRest s live (s .count) blocks (s .order) pool
 
   -- block i is where it was
-  lie : (i : ℕ) → Lies (getD blocks i zeroBlock) (blockAt s i)
+  lie : (i : ℕ) → LiesAs (getD blocks i zeroBlock) (blockAt s i)
   lie i =
       by-eq i j
-      (λ e. subst (λ (k : ℕ). Lies (getD blocks k zeroBlock) (blockAt s k)) (sym e) (subst (λ (c : Block). Lies c (blockAt s j)) (sym here) lies))
-      (λ ne. subst (λ (c : Block). Lies c (blockAt s i)) (sym (there i ne)) (lies-refl (blockAt s i)))
+      (λ e. subst (λ (k : ℕ). LiesAs (getD blocks k zeroBlock) (blockAt s k)) (sym e) (lies-trans (lies-refl here) lies))
+      (λ ne. lies-refl (there i ne))
 
   block-sound : (i : ℕ) → i < s .count → ShapedBlockIn s (getD blocks i zeroBlock)
   block-sound i l =

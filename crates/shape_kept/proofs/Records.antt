@@ -6,15 +6,14 @@ use native.Mathlib.Omega.{arith}
 use borrow.Author.Tests.{eqb-true, eqb-false}
 use lib.Dec.{eqb, lit<}
 use Rattle.numbers.specs.Pick.{pick}
-use Rattle.numbers.proofs.Split.{not-both}
+use Rattle.numbers.proofs.Bools.{not-both, picked, refute}
 use Rattle.block.specs.declared.Block.{Block}
 use Rattle.block.specs.Record.{emptyFlag, dirtyFlag, isOn, on, off, withNumbers}
 use Rattle.block.specs.Marking.{moved, marked, emptied, widened, released}
-use Rattle.sizes.proofs.Cases.{picked}
+use Rattle.block.proofs.LiesAs.{LiesAs}
 use Rattle.state.specs.declared.State.{State}
 use Rattle.state.specs.Shape.{isEmpty}
 use Rattle.shape.specs.Facts.{ShapedBlockIn}
-use Rattle.shape_kept.proofs.Put.{Lies}
 
 -- ---- the flags, of which there are four values
 four : (P : ℕ → Type 0) (n : ℕ) → n ≤ 3 → P 0 → P 1 → P 2 → P 3 → P n
@@ -51,7 +50,7 @@ pub record Bare (s : State) (b : Block) : Type 0 where
   pub pool : b .pool < s .poolcount
   pub base : b .base % 65536 ≡ 0
   pub area-low : 0 < b .area
-  pub area-even : b .area % 32 ≡ 0
+  pub area-whole : b .area % 32 ≡ 0
   pub area-size : b .area * s .granularity ≡ b .size
   pub area-high : b .area ≤ 32 * s .w
   pub start : b .start ≤ b .area
@@ -67,7 +66,7 @@ bare s b q = record {
   pool = q .pool;
   base = q .base;
   area-low = q .area-low;
-  area-even = q .area-even;
+  area-whole = q .area-whole;
   area-size = q .area-size;
   area-high = q .area-high;
   start = q .start;
@@ -81,7 +80,7 @@ bare s b q = record {
 -- c is b with another used count, sound, and flagged empty or not
 pub record Changed (s : State) (b c : Block) (used : ℕ) (empty : Bool) : Type 0 where
   pub sound : ShapedBlockIn s c
-  pub lies : Lies c b
+  pub lies : LiesAs c b
   pub used-is : c .used ≡ used
   pub empty-is : isEmpty c ≡ empty
 
@@ -93,7 +92,7 @@ module _ (s : State) (b : Block) (q : Bare s b) (flags used start end largest : 
     pool = q .pool;
     base = q .base;
     area-low = q .area-low;
-    area-even = q .area-even;
+    area-whole = q .area-whole;
     area-size = q .area-size;
     area-high = q .area-high;
     used = u;
@@ -150,11 +149,7 @@ widened-changed s b q i e h l pos =
     let w = widened-flags (b .flags) (q .flags) in
     numbers-used s b (bare s b q) _ (b .used - (e - i)) (min (b .start) i) (max (b .end) e) (b .largest)
     (omega (arith, q .used)) (omega (arith, q .start)) (omega (arith, q .end)) (q .largest) (w .1)
-    (w .0 ∙ not-empty (isEmpty b) (λ t. omega (arith, q .empty-unused t))) pos
-  where
-    not-empty : (c : Bool) → (c ≡ true → ⊥) → c ≡ false
-    not-empty true f = absurd (f refl)
-    not-empty false f = refl
+    (w .0 ∙ refute (isEmpty b) (λ t. omega (arith, q .empty-unused t))) pos
 
 -- what a release leaves, by its used count
 abbrev pub emptyAt : ℕ → Bool

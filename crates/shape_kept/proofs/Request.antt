@@ -15,15 +15,16 @@ use Rattle.sizes.proofs.Sizes.{rounded-is}
 use Rattle.state.specs.declared.State.{State}
 use Rattle.shape.specs.Shaped.{Shaped}
 use Rattle.shape.proofs.Shaped.{shaped-is}
+use Rattle.machine.specs.Alloc.{poolFor, unitsFor, searchFor}
+use Rattle.machine.proofs.Cases.{Seeks}
 use Rattle.shape_facts.proofs.Search.{Left, search-left}
 use Rattle.shape_facts.specs.Ready.{Allocates}
 use Rattle.shape_facts.proofs.Pool.{g-good, some-units, pool-in}
 use Rattle.shape_kept.specs.Sized.{Sized}
-use Rattle.shape_kept.proofs.Cases.{Seeks, poolFor, unitsFor, searchFor}
 
 -- rounding up gives a multiple, also where it wraps
-up-even : (size g : ℕ) → isGranularity g ≡ true → alignUp size g % g ≡ 0
-up-even size g good =
+up-whole : (size g : ℕ) → isGranularity g ≡ true → alignUp size g % g ≡ 0
+up-whole size g good =
     let r = granularity-is g good in
     let j = r .exponent in
     let low : j ≤ 64 = omega (arith, r .high) in
@@ -41,7 +42,7 @@ module _ (s : State) (u t : List ℕ) (size bytes : ℕ) (k : Seeks s u t size b
         shaped = seeks-shaped;
         some = a .some;
         most = a .small;
-        even = ap (λ (n : ℕ). n % s .granularity) (a .is) ∙ up-even size (s .granularity) (g-good (s .granularity) (seeks-shaped .head .g-listed));
+        whole = ap (λ (n : ℕ). n % s .granularity) (a .is) ∙ up-whole size (s .granularity) (g-good (s .granularity) (seeks-shaped .head .g-listed));
       }
 
   pub seeks-some : 0 < unitsFor s bytes

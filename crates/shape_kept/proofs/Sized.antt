@@ -4,13 +4,13 @@ use mathlib.Core.Bool.{true, false}
 use mathlib.Core.List.{List}
 use mathlib.Core.Path.{refl, _∙_}
 use lib.ListN.{length-set}
+use Rattle.numbers.proofs.Bools.{picked}
 use Rattle.block.specs.declared.Block.{Block}
 use Rattle.block.specs.declared.Looked.{Looked}
 use Rattle.block.specs.declared.Looked.the-variants.{Found as found, Missed as missed}
 use Rattle.block.specs.Marking.{emptied, marked, markReleased, markShrunk}
 use Rattle.block.specs.Search.{lookInto}
 use Rattle.sizes.specs.declared.Pool.{Pool}
-use Rattle.sizes.proofs.Cases.{picked}
 use mir.Val.{Val}
 use denote.Laws.{Is}
 use denote.Struct.Declared.{row}
@@ -23,12 +23,12 @@ use Rattle.state.specs.Shape.{inPool}
 use Rattle.state.specs.Change.{inserted, removed}
 use Rattle.state.proofs.Lists.{length-listFrom}
 use Rattle.machine.specs.Turn.{Turn, putBlock, putPool, withLive}
-use Rattle.machine.specs.Alloc.{after, searchFrom, searchPool, allocMarked}
+use Rattle.machine.specs.Alloc.{poolFor, unitsFor, searchFor, after, searchFrom, searchPool, allocMarked}
 use Rattle.machine.specs.Release.{lessUsed, releaseUnits, releaseTurn}
 use Rattle.machine.specs.Reset.{emptyTable, oldest, keep, kept}
 use Rattle.machine.specs.Machine.{Call, create, alloc, release, shrink, query, softReset, hardReset, step}
+use Rattle.machine.proofs.Cases.{settle-cases, create-cases, query-cases, release-cases, shrink-cases, reset-cases, alloc-cases}
 use Rattle.shape_kept.specs.Sized.{Sized}
-use Rattle.shape_kept.proofs.Cases.{poolFor, unitsFor, searchFor, settle-cases, create-cases, query-cases, release-cases, shrink-cases, reset-cases, alloc-cases}
 
 -- ---- a value of the record's type
 pub sized-is : (s : State) (vs : List Val) → Is (row the-type) s vs → Sized s
@@ -105,22 +105,22 @@ module _ (s : State) (u t : List ℕ) (z : Sized s) where
       settle-cases Left r (m .used) (m .stop) _ j (λ n. y) (λ n g. sized-removed r y j) (λ n g h. sized-pool r y (blockAt r j .pool) _)
 
   released : (a : ℕ) → Left (releaseTurn s u t a)
-  released a = release-cases Left s u t (λ why. z) a (λ j i e k. freed a j i e)
+  released a = release-cases Left s u t a (λ why cond. z) (λ j i e k. freed a j i e)
 
   -- ---- any call
   pub sized-kept : (c : Call) → Sized (step s u t c .state)
   sized-kept (create a) = create-cases Left s u t a (λ e. z) (λ e. record { blocks = refl; order = refl; pools = refl })
   sized-kept (alloc size) =
-      alloc-cases Left s u t (λ why. z) size
-      (λ bytes k. sized-search s z u (poolFor s bytes) (unitsFor s bytes))
+      alloc-cases Left s u t size (λ why early cond. z)
+      (λ bytes k miss short. sized-search s z u (poolFor s bytes) (unitsFor s bytes))
       (λ bytes j i k e. marked-sized (searchFor s u bytes .state) (sized-search s z u (poolFor s bytes) (unitsFor s bytes)) u t j i (unitsFor s bytes))
-      (λ bytes at slot k m.
+      (λ bytes at slot k miss m.
       let r = searchFor s u bytes .state in
       marked-sized (inserted r _) (sized-inserted r (sized-search s z u (poolFor s bytes) (unitsFor s bytes)) _) u t (r .count) 0 (unitsFor s bytes))
   sized-kept (release a) = released a
   sized-kept (shrink a size) =
-      shrink-cases Left s u t (λ why. z) a size (released a) (λ j i e n k same. z)
+      shrink-cases Left s u t a size (λ why cond. z) (λ none. released a) (λ j i e n k same. z)
       (λ j i e n k. sized-less s z j (markShrunk (s .w) (blockAt s j) (i + n) e u t .block) (e - (i + n)))
-  sized-kept (query a) = query-cases Left s u t (λ why. z) a (λ j i e k. z)
-  sized-kept softReset = reset-cases Left s u t (λ why. z) false (λ e. sized-empty s) (λ e i. sized-kept-blocks s (s .count))
-  sized-kept hardReset = reset-cases Left s u t (λ why. z) true (λ e. sized-empty s) (λ e i. sized-kept-blocks s (s .count))
+  sized-kept (query a) = query-cases Left s u t a (λ why cond. z) (λ j i e k. z)
+  sized-kept softReset = reset-cases Left s u t false (λ bad. z) (λ e. sized-empty s) (λ e i. sized-kept-blocks s (s .count))
+  sized-kept hardReset = reset-cases Left s u t true (λ bad. z) (λ e. sized-empty s) (λ e i. sized-kept-blocks s (s .count))

@@ -27,14 +27,14 @@ use Rattle.shape_facts.proofs.Clear.{length-clear}
 use Rattle.shape_facts.proofs.Leaves.{released-stays}
 use Rattle.machine.specs.Turn.{Turn, withLive, clearSlot}
 use Rattle.machine.specs.Create.{Asked, slotsOf, granted}
-use Rattle.machine.specs.Alloc.{allocMarked, allocMade}
+use Rattle.machine.specs.Alloc.{poolFor, unitsFor, searchFor, newSize, allocMarked, allocMade}
 use Rattle.machine.specs.Release.{lessUsed, releaseUnits, releaseTurn}
 use Rattle.machine.specs.Shrink.{shrinkTail}
 use Rattle.machine.specs.Reset.{clearBlocks}
 use Rattle.machine.specs.Machine.{Call, create, alloc, release, shrink, query, softReset, hardReset, step}
+use Rattle.machine.proofs.Cases.{Holds, FreesSpan, Cuts, Seeks, Places, settle-cases, create-cases, query-cases, release-cases, shrink-cases, reset-cases, alloc-cases}
 use Rattle.shape_kept.specs.Sized.{Sized}
 use Rattle.shape_kept.proofs.After.{inserted-new, less-block}
-use Rattle.shape_kept.proofs.Cases.{Holds, FreesSpan, Cuts, Seeks, Places, poolFor, unitsFor, searchFor, newSize, settle-cases, create-cases, query-cases, release-cases, shrink-cases, reset-cases, alloc-cases}
 use Rattle.shape_kept.proofs.Sized.{sized-search}
 use Rattle.shape_kept.proofs.Request.{seeks-some, seeks-left}
 
@@ -100,7 +100,7 @@ module _ (s : State) (u t : List ℕ) (z : Sized s) where
       settle-cases (Long u t) r (m .used) (m .stop) _ j (λ n. (v, w)) (λ n g. (c .0 ∙ v, c .1 ∙ w)) (λ n g h. (v, w))
 
   released-long : (a : ℕ) → Long u t (releaseTurn s u t a)
-  released-long a = release-cases (Long u t) s u t (λ why. (refl, refl)) a (freed a)
+  released-long a = release-cases (Long u t) s u t a (λ why cond. (refl, refl)) (freed a)
 
   cut : (a size j i e n : ℕ) → Cuts s u t a size j i e n → Long u t (shrinkTail s u t a j i e n)
   cut a size j i e n k =
@@ -139,9 +139,9 @@ module _ (s : State) (u t : List ℕ) (z : Sized s) where
   pub words-kept : (c : Call) → Long u t (step s u t c)
   words-kept (create a) =
       create-cases (Long u t) s u t a (λ e. (refl, refl)) (λ e. created-long a u t)
-  words-kept (alloc size) = alloc-cases (Long u t) s u t (λ why. (refl, refl)) size (λ bytes k. (refl, refl)) (hit size) (make size)
+  words-kept (alloc size) = alloc-cases (Long u t) s u t size (λ why early cond. (refl, refl)) (λ bytes k miss short. (refl, refl)) (hit size) (λ bytes at slot k miss. make size bytes at slot k)
   words-kept (release a) = released-long a
-  words-kept (shrink a size) = shrink-cases (Long u t) s u t (λ why. (refl, refl)) a size (released-long a) (λ j i e n k same. (refl, refl)) (cut a size)
-  words-kept (query a) = query-cases (Long u t) s u t (λ why. (refl, refl)) a (λ j i e k. (refl, refl))
-  words-kept softReset = reset-cases (Long u t) s u t (λ why. (refl, refl)) false cleared (λ e i. cleared e)
-  words-kept hardReset = reset-cases (Long u t) s u t (λ why. (refl, refl)) true cleared (λ e i. cleared e)
+  words-kept (shrink a size) = shrink-cases (Long u t) s u t a size (λ why cond. (refl, refl)) (λ none. released-long a) (λ j i e n k same. (refl, refl)) (cut a size)
+  words-kept (query a) = query-cases (Long u t) s u t a (λ why cond. (refl, refl)) (λ j i e k. (refl, refl))
+  words-kept softReset = reset-cases (Long u t) s u t false (λ bad. (refl, refl)) cleared (λ e i. cleared e)
+  words-kept hardReset = reset-cases (Long u t) s u t true (λ bad. (refl, refl)) cleared (λ e i. cleared e)

@@ -1,5 +1,5 @@
--- What a call leaves of a state that is not BadShape: one that is not, but for one case. The live count is not tested against the spans in the maps, so a
--- release or a shrink may leave it above the used units. Assumes nothing.
+-- What a call leaves of a state that is not BadShape: again such a state, except in one case. BadShape doesn't compare the live count with
+-- the spans in the maps, so a release or a shrink may leave it above the used units. Assumes nothing.
 use Prim.Native.Nat.{ℕ, _<_}
 use mathlib.Core.Bool.{true}
 use mathlib.Core.List.{List}
@@ -28,7 +28,7 @@ Frees (query a) = ⊥
 Frees softReset = ⊥
 Frees hardReset = ⊥
 
--- and it was granted, by its answer
+-- the answer says that it was granted
 abbrev pub Freed : Answer → Type 0
 Freed (Released span) = Unit {0}
 Freed (Shrunk span) = Unit {0}

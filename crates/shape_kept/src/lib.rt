@@ -1,1 +1,1 @@
-// No code: what a call leaves of a state that is not BadShape (specs/Closed.antt, proofs/Closed.antt).
+// No code: proves what a call leaves of a state that is not BadShape (specs/Closed.antt, proofs/Closed.antt).

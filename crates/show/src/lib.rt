@@ -1,11 +1,11 @@
-// What the programs that show a state share: a word and numbers as one line on standard output, and the words of a slot.
+// Writes a word and numbers as one line to standard output, and reads a slot's words. The programs that show a state share this.
 ghost use mathlib.Core.Path.{_≡_};
 ghost use Prim.Native.Nat.{_*_, _≤_, _<_};
 ghost use lib.ListN.{getD};
 
 // ---- lines
 
-// The room of a line: a short word and 14 numbers. What has no room is left out.
+// The room of a line: a short word and 14 numbers. What does not fit is left out.
 const ROOM: usize = 320;
 
 fn put_word(out: &mut [u8], word: &[u8]) -> usize {
@@ -41,7 +41,7 @@ fn put_end(out: &mut [u8], at: usize) -> usize {
     at
 }
 
-// The bytes up to `end`, in one write.
+// Writes the bytes up to `end`, in one write.
 pub fn front(out: &[u8], end: usize) {
     if end <= out.len() {
         io::write_all(libc::STDOUT_FILENO, &out[..end]);
@@ -55,7 +55,7 @@ fn write_line(out: &mut [u8], word: &[u8], numbers: &[u64]) {
     front(out, end);
 }
 
-// A word and numbers, in one write.
+// Writes a word and numbers as a line, in one write.
 pub fn line(word: &[u8], numbers: &[u64]) {
     let mut out: [u8; 320] = [0; ROOM];
     write_line(&mut out, word, numbers);
@@ -63,14 +63,14 @@ pub fn line(word: &[u8], numbers: &[u64]) {
 
 // ---- words
 
-// A word behind the last is 0.
+// Returns the word at an index, or 0 after the last one.
 pub fn word_at(words: &[u32], at: usize) -> u32
     ensures { λ r. ⌜ r ≡ getD (now (words .entry)) at 0 ⌝ }
 {
     if at < words.len() { words[at] } else { 0 }
 }
 
-// The first word of a slot; 0 for numbers that no state has.
+// Returns the index of a slot's first word; 0 for numbers that no state has.
 pub fn slot_base(slot: usize, w: usize) -> usize
     ensures { λ r. ⌜ (slot < 64 → w ≤ 16384 → r ≡ slot * w) ⌝ }
 {

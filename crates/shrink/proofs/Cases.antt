@@ -9,7 +9,7 @@ use Rattle.numbers.specs.Units.{unitsOf, bytesOf}
 use Rattle.numbers.proofs.Split.{by-le, by-eq}
 use Rattle.numbers.proofs.Units.{units-hold, units-le}
 use Rattle.state.specs.declared.State.{State}
-use Rattle.state.specs.declared.Held.the-variants.{Units}
+use Rattle.state.specs.declared.Held.the-variants.{Range}
 use Rattle.state.specs.declared.Refusal.the-variants.{InvalidState, Damaged}
 use Rattle.state.specs.declared.Answer.the-variants.{Shrunk}
 use Rattle.state.specs.Table.{blockAt}
@@ -42,11 +42,11 @@ module _ (s : State) (u t : List ℕ) (a j i e n : ℕ) where
   fewer-units y z = rw (y, z)
 
 module _ (s : State) (u t : List ℕ) (a size j i e : ℕ) where
-  pub shrunk-damaged : ltb (blockAt s j .used) (e - i) ≡ true → refuse Damaged s u t ≡ shrinkHeld s u t a size j (Units i e)
+  pub shrunk-damaged : ltb (blockAt s j .used) (e - i) ≡ true → refuse Damaged s u t ≡ shrinkHeld s u t a size j (Range i e)
   shrunk-damaged z = rw z
 
   pub shrunk-units : ltb (blockAt s j .used) (e - i) ≡ false
-      → shrinkUnits s u t a j i e (unitsOf size (unitOf s (blockAt s j))) ≡ shrinkHeld s u t a size j (Units i e)
+      → shrinkUnits s u t a j i e (unitsOf size (unitOf s (blockAt s j))) ≡ shrinkHeld s u t a size j (Range i e)
   shrunk-units z = rw z
 
 -- ---- without a byte

@@ -7,12 +7,12 @@ use state::Outcome;
 use state::Refusal;
 use state::State;
 ghost use mathlib.Core.Path.{_≡_};
-ghost use Rattle.machine.specs.Turn.{turn};
+ghost use Rattle.machine.specs.Turn.{turnOf};
 ghost use Rattle.machine.specs.Shrink.{shrinkTurn};
 
-// The span that starts at an address keeps the units that `size` bytes take; without a byte it goes.
+// Shortens the span that starts at an address to the units that `size` bytes take; a size of 0 releases it.
 pub fn shrink(s: State, used: &mut [u32], stop: &mut [u32], address: u64, size: u64) -> Outcome
-    ensures { λ r. ⌜ turn (r .answer) (r .state) (now (used .exit)) (now (stop .exit)) ≡ shrinkTurn s (now (used .entry)) (now (stop .entry)) address size ⌝ }
+    ensures { λ r. ⌜ turnOf r (now (used .exit)) (now (stop .exit)) ≡ shrinkTurn s (now (used .entry)) (now (stop .entry)) address size ⌝ }
 {
     if size == 0 {
         return release::release(s, used, stop, address);
@@ -35,7 +35,7 @@ pub fn shrink(s: State, used: &mut [u32], stop: &mut [u32], address: u64, size: 
         Held::NoStop => {
             return state::refused(s, Refusal::Damaged);
         }
-        Held::Units(from, to) => {
+        Held::Range(from, to) => {
             let b = state::block_at(s, j);
             if b.used < to - from {
                 return state::refused(s, Refusal::Damaged);

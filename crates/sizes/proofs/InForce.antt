@@ -7,9 +7,9 @@ use native.Mathlib.Omega.{arith}
 use lib.Dec.{leb}
 use lib.Pow.{pow-lt, pow-add}
 use borrow.Author.Tests.{eqb-true, ne-eqb, leb-true}
+use Rattle.numbers.proofs.Bools.{picked, and-left, and-right}
 use Rattle.numbers.proofs.Split.{by-eq, by-le}
 use Rattle.sizes.specs.Limits.{isGranularity, granularityInForce, isPowerBelow, isPowerOfTwo, isBaseSize, baseSizeInForce}
-use Rattle.sizes.proofs.Cases.{picked, and-left, and-right}
 use Rattle.sizes.proofs.Powers.{PowerBelow, power-is}
 
 -- ---- granularities

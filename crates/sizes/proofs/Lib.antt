@@ -1,4 +1,3 @@
-pub mod Cases
 pub mod Powers
 pub mod InForce
 pub mod Pools

@@ -8,21 +8,21 @@ use native.Mathlib.Omega.{arith}
 use lib.Dec.{eqb}
 use lib.Pow.{pow-pos, pow-add, pow-mono}
 use borrow.Author.Tests.{eq-eqb, ne-eqb}
+use Rattle.numbers.proofs.Bools.{picked}
 use Rattle.numbers.proofs.Split.{by-eq}
 use Rattle.numbers.proofs.Align.{up-pow}
-use Rattle.numbers.proofs.Units.{units-even}
+use Rattle.numbers.proofs.Units.{units-whole}
 use Rattle.numbers.specs.Align.{alignUp}
 use Rattle.numbers.specs.Pick.{pick}
 use Rattle.sizes.specs.Limits.{isGranularity}
 use Rattle.sizes.specs.Pools.{poolOf}
 use Rattle.sizes.proofs.InForce.{granularity-is}
-use Rattle.sizes.proofs.Cases.{picked}
 
 -- rounding up to a power of two changes what is no multiple of it, and nothing else
 pub up-same : (x j : ℕ) → j ≤ 64 → x + (2 ^ j - 1) < 2 ^ 64 → (alignUp x (2 ^ j) ≡ x) ↔ (x % 2 ^ j ≡ 0)
 up-same x j k l = (
   λ e. ap (λ (y : ℕ). y % 2 ^ j) (sym e ∙ up-pow x j k l) ∙ mul-mod-left ((x + (2 ^ j - 1)) / 2 ^ j) (2 ^ j),
-  λ e. up-pow x j k l ∙ ap (λ (q : ℕ). q * 2 ^ j) (units-even x (2 ^ j) (pow-pos j) e) ∙ omega (arith, div-add-mod' x (2 ^ j)),
+  λ e. up-pow x j k l ∙ ap (λ (q : ℕ). q * 2 ^ j) (units-whole x (2 ^ j) (pow-pos j) e) ∙ omega (arith, div-add-mod' x (2 ^ j)),
 )
 
 -- the code's test for pool k is document 01's

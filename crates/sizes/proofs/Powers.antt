@@ -8,9 +8,9 @@ use native.Mathlib.Omega.{arith}
 use lib.Bits.{bitAnd, and-step, and-self, and-mask}
 use lib.Dec.{eqb}
 use borrow.Author.Tests.{eq-eqb, ne-eqb}
+use Rattle.numbers.proofs.Bools.{by-bool}
 use Rattle.numbers.proofs.Split.{by-eq}
 use Rattle.sizes.specs.Limits.{isPowerBelow, isPowerOfTwo}
-use Rattle.sizes.proofs.Cases.{by-test}
 
 pub record PowerBelow (n x : ℕ) : Type 0 where
   pub exponent : ℕ
@@ -59,6 +59,6 @@ mask-test x h l = by-eq (bitAnd x (x - 1)) 0 yes no
 
     no : (bitAnd x (x - 1) ≡ 0 → ⊥) → eqb (bitAnd x (x - 1)) 0 ≡ isPowerOfTwo x
     no ne =
-        by-test (isPowerOfTwo x)
+        by-bool (isPowerOfTwo x)
         (λ t. let r = power-is 64 x t in absurd (ne (ap (λ (y : ℕ). bitAnd y (y - 1)) (r .is) ∙ mask-none (r .exponent))))
         (λ f. ne-eqb _ _ ne ∙ sym f)

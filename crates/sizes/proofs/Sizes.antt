@@ -8,13 +8,13 @@ use native.Mathlib.Omega.{arith}
 use lib.Dec.{ltb}
 use lib.Pow.{pow-pos, pow-mono}
 use borrow.Author.Tests.{eq-eqb, ne-eqb, lt-ltb, le-ltb, ltb-true, ltb-false}
+use Rattle.numbers.proofs.Bools.{picked}
 use Rattle.numbers.proofs.Align.{up-low, up-high, up-divides, up-zero}
 use Rattle.numbers.proofs.Split.{by-eq, by-le}
 use Rattle.numbers.specs.Align.{alignUp}
 use Rattle.sizes.specs.declared.Rounded.the-variants.{To, Refused}
 use Rattle.sizes.specs.Limits.{isGranularity}
 use Rattle.sizes.specs.Sizes.{accepted, rounded, doubled, idealSize}
-use Rattle.sizes.proofs.Cases.{picked}
 use Rattle.sizes.proofs.InForce.{granularity-is}
 
 -- ---- a request

@@ -1,4 +1,4 @@
-// Sizes: a request's rounded size, the pool that it belongs to, and the size of a new block.
+// Rounds a request's size, finds its pool, and sizes a new block.
 pub mod limits;
 
 ghost use mathlib.Core.Path.{_≡_};
@@ -9,6 +9,9 @@ ghost use Rattle.sizes.specs.Limits.{isGranularity};
 ghost use Rattle.sizes.specs.Pools.{freshPool, poolOf};
 ghost use Rattle.sizes.specs.Sizes.{rounded, idealSize};
 
+// The arena's base and length and every block's base are multiples of it: the system's page granularity in the Rust.
+pub const PAGE: u64 = 64 * 1024;
+
 pub const MAX_BLOCK_SIZE: u64 = 32 * 1024 * 1024;
 
 // The Rust's `u32::MAX / 2`.
@@ -16,7 +19,7 @@ pub const MAX_SIZE: u64 = 2_147_483_647;
 
 // ---- pools
 
-// A pool's unit, and of its blocks the count, the count of those that are empty, the sum of areas and the sum of used units.
+// A pool: its unit, how many blocks it has, how many of them are empty, and the sums of their areas and of their used units.
 // `JitAllocatorPool` in the Rust.
 pub struct Pool {
     pub granularity: u64,
@@ -40,7 +43,7 @@ impl Pool {
     }
 }
 
-// From the last pool down: the first one of whose step the size is a multiple. Pool 0 takes what is left.
+// Returns the highest pool whose step divides the size. Pool 0 takes what is left.
 pub fn size_to_pool_id(size: u64, granularity: u64, poolcount: usize) -> usize
     requires { ⌜ (size < 2 ^ 32) × (isGranularity granularity ≡ true) × ((poolcount ≡ 1) ⊎ (poolcount ≡ 3)) ⌝ }
     ensures { λ r. ⌜ r ≡ poolOf size granularity poolcount ⌝ }
@@ -70,7 +73,7 @@ impl Rounded {
     pub const TOO_LARGE: u32 = 2;
 }
 
-// No test stands before the rounding: a size that wraps becomes 0, and is refused as 0 is.
+// Rounds a size up to the granularity, or refuses it. It rounds first: a size that wraps becomes 0, and is refused as 0 is.
 pub fn round_size(size: u64, granularity: u64) -> Rounded
     requires { ⌜ 0 < granularity ⌝ }
     ensures { λ r. ⌜ r ≡ rounded size granularity ⌝ }
@@ -85,8 +88,8 @@ pub fn round_size(size: u64, granularity: u64) -> Rounded
     Rounded::To(rounded)
 }
 
-// `newest` is the size of the pool's newest block, or the base size if it has none. The Rust answers 0 where the rounding wraps:
-// that branch is dead, since within these bounds the answer is never below the request (`ideal-holds`).
+// Returns the size of a new block. `newest` is the size of the pool's newest block, or the base size if it has none. The Rust answers 0 if
+// the rounding wraps: that branch is dead, since within these bounds the answer is never below the request (`ideal-holds`).
 pub fn calculate_ideal_block_size(newest: u64, size: u64) -> u64
     requires { ⌜ (0 < newest) × (newest ≤ 2 ^ 27) × (size < 2 ^ 32) ⌝ }
     ensures { λ r. ⌜ r ≡ idealSize newest size ⌝ }

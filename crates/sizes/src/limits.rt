@@ -1,4 +1,4 @@
-// The sizes and granularities that creation accepts.
+// Tests and picks the sizes and granularities that creation accepts.
 ghost use mathlib.Core.Path.{_≡_};
 ghost use Prim.Native.Nat.{_<_};
 ghost use Rattle.sizes.specs.Limits.{isGranularity, granularityInForce, isPowerOfTwo, isBaseSize, baseSizeInForce};
@@ -24,7 +24,7 @@ pub fn granularity_in_force(asked: u32) -> u64
     }
 }
 
-// As the Rust's method of that name, for a number that is not 0: taking 1 away clears the lowest bit that is on.
+// As the Rust's method of that name, for a number other than 0: `x & (x - 1)` clears the lowest one, and a power of two has no other.
 fn is_power_of_two(x: u64) -> bool
     requires { ⌜ 0 < x ⌝ }
     ensures { λ r. ⌜ r ≡ isPowerOfTwo x ⌝ }
@@ -44,7 +44,7 @@ pub fn is_base_size(size: u64) -> bool
     is_power_of_two(size)
 }
 
-// The Rust takes the system's page granularity where the request is not listed.
+// If the request is not listed, the Rust takes the system's page granularity.
 pub fn base_size_in_force(asked: u32) -> u64
     ensures { λ r. ⌜ r ≡ baseSizeInForce asked ⌝ }
 {

@@ -1,5 +1,4 @@
-// A map of slots of `w` words each, one slot for a block: a function hands back a slot's part by its number, to be read, or to be written
-// where it is marked.
+// Reads, marks and clears slots. A map consists of slots of `w` words each, and a block has one slot in each map.
 ghost use mathlib.Core.Path.{_≡_};
 ghost use Prim.Native.Nat.{_+_, _*_, _^_, _≤_, _<_};
 ghost use mir.Val.{boolByte};
@@ -8,7 +7,7 @@ ghost use Rattle.bits.specs.Bits.{filled};
 ghost use Rattle.slots.specs.Slots.{slotOf, fillSlot, putSlot};
 ghost use Rattle.slots.specs.Back.{GoesBack};
 
-// The part of a slot, to be read.
+// Lends a slot's words for reading.
 pub fn slot(words: &[u32], slot: usize, w: usize) -> &[u32]
     requires { ⌜ (slot + 1) * w ≤ length (now words) ⌝ }
     ensures { λ r. ⌜ now r ≡ slotOf w slot (now (words .entry)) ⌝ }
@@ -18,7 +17,7 @@ pub fn slot(words: &[u32], slot: usize, w: usize) -> &[u32]
     &words[a..e]
 }
 
-// The part of a slot, to be written. `back`: once the part's last words are known, so are the whole's.
+// Lends a slot's words for writing. `back`: once the slot's final words are known, so are the map's.
 pub fn slot_mut(words: &mut [u32], slot: usize, w: usize) -> &mut [u32]
     requires { ⌜ (slot + 1) * w ≤ length (now words) ⌝ }
     ensures { λ r. ⌜ now r ≡ slotOf w slot (now (words .entry)) ⌝ }
@@ -29,7 +28,7 @@ pub fn slot_mut(words: &mut [u32], slot: usize, w: usize) -> &mut [u32]
     &mut words[a..e]
 }
 
-// All work on a part is done here, so that `write` stays as it is.
+// Sets or clears `n` bits of a slot's words. It stands apart so that `write` only lends.
 fn put(part: &mut [u32], from: usize, n: usize, value: bool)
     requires { ⌜ (from + n ≤ 32 * length (now part)) × (length (now part) < 2 ^ 32) ⌝ }
     ensures { λ _. ⌜ now (part .exit) ≡ filled (now (part .entry)) from n (boolByte value) ⌝ }
@@ -41,7 +40,7 @@ fn put(part: &mut [u32], from: usize, n: usize, value: bool)
     }
 }
 
-// The one function that takes a slot's part and writes it.
+// Sets or clears the `n` units from `from` on of a slot. No other function takes a slot for writing.
 pub fn write(words: &mut [u32], slot: usize, w: usize, from: usize, n: usize, value: bool)
     requires { ⌜ ((slot + 1) * w ≤ length (now words)) × (from + n ≤ 32 * w) × (w < 2 ^ 32) ⌝ }
     ensures { λ _. ⌜ now (words .exit) ≡ fillSlot w slot (now (words .entry)) from n (boolByte value) ⌝ }
@@ -60,7 +59,7 @@ pub fn mark(words: &mut [u32], slot: usize, w: usize, from: usize, n: usize)
     write(words, slot, w, from, n, true);
 }
 
-// Clears them.
+// Clears the `n` units from `from` on of a slot.
 pub fn unmark(words: &mut [u32], slot: usize, w: usize, from: usize, n: usize)
     requires { ⌜ ((slot + 1) * w ≤ length (now words)) × (from + n ≤ 32 * w) × (w < 2 ^ 32) ⌝ }
     ensures { λ _. ⌜ now (words .exit) ≡ fillSlot w slot (now (words .entry)) from n 0 ⌝ }

@@ -1,4 +1,4 @@
-// Spans of a block: one by its address and units, and what stands at an address, whether a span starts there and where it ends.
+// Makes a span from its address and units, and finds out whether a span starts at an address and where it ends.
 use block::Block;
 use state::Held;
 use state::Span;
@@ -7,24 +7,25 @@ ghost use mathlib.Core.Path.{_≡_};
 ghost use Prim.Native.Nat.{_*_, _^_, _<_, _+_, _-_, _%_, _≤_};
 ghost use lib.ListN.{length};
 ghost use Rattle.numbers.specs.Units.{bytesOf};
+ghost use Rattle.sizes.specs.Limits.{slotLimit};
 ghost use Rattle.state.specs.Table.{blockAt};
 ghost use Rattle.machine.specs.Turn.{span, unitOf};
 ghost use Rattle.block.specs.Record.{Placed};
 ghost use Rattle.machine.specs.Span.{starts, heldAt, heldOf, heldIn};
 ghost use Rattle.spans.specs.AddressIn.{AddressIn};
 
-// The span at an address of block `j` that has `n` units.
+// Makes the span of `n` units at an address of block `j`.
 pub fn span_at(s: State, j: usize, address: u64, n: u32) -> Span
-    requires { ⌜ (j < 64) × (blockAt s j .pool < 3) × (n * unitOf s (blockAt s j) < 2 ^ 64) ⌝ }
+    requires { ⌜ (j < slotLimit) × (blockAt s j .pool < 3) × (n * unitOf s (blockAt s j) < 2 ^ 64) ⌝ }
     ensures { λ r. ⌜ r ≡ span address (bytesOf n (unitOf s (blockAt s j))) ⌝ }
 {
     let b = state::block_at(s, j);
-    let pool = state::pool_at(s, b.pool);
-    let size = numbers::byte_size_from_area_size(n, pool.granularity);
+    let q = state::pool_at(s, b.pool);
+    let size = numbers::byte_size_from_area_size(n, q.granularity);
     Span { address, size }
 }
 
-// A span starts at a used unit that is unit 0, or behind a free one, or behind one with a stop bit.
+// True if a span starts at the unit: it is used, and is unit 0 or follows a free unit or a stop bit.
 fn is_start(used: &[u32], stop: &[u32], unit: usize) -> bool
     requires { ⌜ (unit < 32 * length (now used)) × (unit < 32 * length (now stop)) ⌝ }
     ensures { λ r. ⌜ r ≡ starts (now (used .entry)) (now (stop .entry)) unit ⌝ }
@@ -41,7 +42,7 @@ fn is_start(used: &[u32], stop: &[u32], unit: usize) -> bool
     bits::bit_vector_get_bit(stop, unit - 1)
 }
 
-// What stands at a unit of a block, by its words.
+// Finds the span that starts at a unit of a block, given the block's words.
 fn held_at(used: &[u32], stop: &[u32], area: u32, unit: u32) -> Held
     requires { ⌜ (unit < area) × (area ≤ 32 * length (now used)) × (area ≤ 32 * length (now stop)) × (length (now stop) < 2 ^ 32) ⌝ }
     ensures { λ r. ⌜ r ≡ heldAt (now (used .entry)) (now (stop .entry)) area unit ⌝ }
@@ -54,10 +55,10 @@ fn held_at(used: &[u32], stop: &[u32], area: u32, unit: u32) -> Held
     if (area as usize) <= last {
         return Held::NoStop;
     }
-    Held::Units(unit, last as u32 + 1)
+    Held::Range(unit, last as u32 + 1)
 }
 
-// What stands at an address of a block whose units have `unit` bytes.
+// Finds the span that starts at an address of a block whose units have `unit` bytes.
 fn held_of(b: Block, used: &[u32], stop: &[u32], w: usize, unit: u64, address: u64) -> Held
     requires { ⌜ Placed b w (length (now used)) (length (now stop)) × AddressIn b unit address ⌝ }
     ensures { λ r. ⌜ r ≡ heldOf w b unit (now (used .entry)) (now (stop .entry)) address ⌝ }
@@ -73,12 +74,12 @@ fn held_of(b: Block, used: &[u32], stop: &[u32], w: usize, unit: u64, address: u
     held_at(mine, ends, b.area, at)
 }
 
-// What stands at an address of the block of age `j`.
+// Finds the span that starts at an address of the block of age `j`.
 pub fn held_in(s: State, used: &[u32], stop: &[u32], j: usize, address: u64) -> Held
-    requires { ⌜ (j < 64) × (blockAt s j .pool < 3) × Placed (blockAt s j) (s .w) (length (now used)) (length (now stop)) × AddressIn (blockAt s j) (unitOf s (blockAt s j)) address ⌝ }
+    requires { ⌜ (j < slotLimit) × (blockAt s j .pool < 3) × Placed (blockAt s j) (s .w) (length (now used)) (length (now stop)) × AddressIn (blockAt s j) (unitOf s (blockAt s j)) address ⌝ }
     ensures { λ r. ⌜ r ≡ heldIn s (now (used .entry)) (now (stop .entry)) address j ⌝ }
 {
     let b = state::block_at(s, j);
-    let pool = state::pool_at(s, b.pool);
-    held_of(b, used, stop, s.w, pool.granularity, address)
+    let q = state::pool_at(s, b.pool);
+    held_of(b, used, stop, s.w, q.granularity, address)
 }

@@ -6,7 +6,8 @@ use native.Mathlib.Nat.{zero-add}
 use native.Mathlib.Numerals.{add-one}
 use native.Mathlib.Omega.{arith}
 use Rattle.numbers.specs.Pick.{pick}
-use Rattle.numbers.proofs.Split.{by-eq, not-both, same-of-not-lt}
+use Rattle.numbers.proofs.Bools.{not-both}
+use Rattle.numbers.proofs.Split.{by-eq, same-of-not-lt}
 use Rattle.state.specs.declared.Found.{Found}
 use Rattle.state.specs.declared.Found.the-variants.{At, Nothing}
 use Rattle.state.specs.Find.{leastFrom, least, latest}

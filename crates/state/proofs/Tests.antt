@@ -1,4 +1,4 @@
--- Laws of tests: of one and another, of a list, of every index, and of sums. Assumes nothing.
+-- Laws of tests: of a list, of every index, and of sums. Assumes nothing.
 use Prim.Native.Nat.{ℕ, zero, suc, _+_, _*_, _≤_, _<_}
 use mathlib.Core.Bool.{Bool, true, false, _&&_}
 use mathlib.Core.List.{List, [], _∷_}
@@ -7,28 +7,10 @@ use native.Mathlib.Nat.{not-suc-le-zero, suc-mul}
 use native.Mathlib.Numerals.{add-one}
 use native.Mathlib.Omega.{arith}
 use lib.ListN.{getD}
+use Rattle.numbers.proofs.Bools.{and-left, and-right, and-both, and-fails-left, and-fails-right}
 use Rattle.numbers.proofs.Split.{by-eq}
 use Rattle.state.specs.Table.{all, allPairs, sum}
 use Rattle.state.specs.Shape.{every}
-
-pub and-left : (a b : Bool) → a && b ≡ true → a ≡ true
-and-left true b e = refl
-and-left false b e = e
-
-pub and-right : (a b : Bool) → a && b ≡ true → b ≡ true
-and-right true b e = e
-and-right false true e = refl
-and-right false false e = e
-
-pub and-both : (a b : Bool) → a ≡ true → b ≡ true → a && b ≡ true
-and-both a b p q = rw (p, q)
-
-pub and-fails-left : (a b : Bool) → a ≡ false → a && b ≡ false
-and-fails-left a b p = rw p
-
-pub and-fails-right : (a b : Bool) → b ≡ false → a && b ≡ false
-and-fails-right true b p = p
-and-fails-right false b p = refl
 
 -- ---- a list of tests that all pass, at place k
 pub every-at : (ts : List Bool) (k : ℕ) → every ts ≡ true → getD ts k true ≡ true
@@ -101,7 +83,3 @@ sum-bound (suc n) m f h = omega (arith, sum-bound n m f (λ i l. h i (omega arit
 pub all-more : (n : ℕ) (t : ℕ → Bool) → all (n + 1) t ≡ all n t && t n
 unfolding all
 all-more n t = ap (λ (m : ℕ). all m t) (add-one n)
-
-pub and-true : (a b : Bool) → b ≡ true → a && b ≡ a
-and-true true b e = e
-and-true false b e = refl

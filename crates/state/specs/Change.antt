@@ -1,9 +1,12 @@
--- A block enters the table or leaves it: records by age, positions by address, zeros behind both, and its pool's block count and area. Assumes nothing.
+-- A block enters the table or leaves it: the blocks by age, their ages by address, zeros after both, and its pool's block count and area.
+-- Assumes nothing.
 use Prim.Native.Nat.{ℕ, zero, suc, _+_, _-_}
 use mathlib.Core.List.{List, [], _∷_}
 use lib.Dec.{ltb, eqb}
 use lib.ListN.{getD, set}
+use Rattle.numbers.specs.Names.{Units, Age}
 use Rattle.numbers.specs.Pick.{pick}
+use Rattle.sizes.specs.Limits.{slotLimit}
 use Rattle.block.specs.declared.Block.{Block}
 use Rattle.sizes.specs.declared.Pool.{Pool}
 use Rattle.state.specs.declared.State.{State}
@@ -21,8 +24,8 @@ abbrev pub orElse : ℕ → Found → ℕ
 orElse n (At k) = k
 orElse n Nothing = n
 
--- the record with other spans and another table
-abbrev pub withRest : State → ℕ → ℕ → List Block → List ℕ → List Pool → State
+-- the record with another live count and another table
+abbrev pub withRest : State → ℕ → ℕ → List Block → List Age → List Pool → State
 withRest s live count blocks order pools = record {
   size = s .size;
   granularity = s .granularity;
@@ -39,44 +42,44 @@ withRest s live count blocks order pools = record {
   pools = pools;
 }
 
-abbrev pub withTable : State → ℕ → List Block → List ℕ → List Pool → State
+abbrev pub withTable : State → ℕ → List Block → List Age → List Pool → State
 withTable s count blocks order pools = withRest s (s .live) count blocks order pools
 
 -- a pool with other sums of blocks and areas
-abbrev pub withBlocks : Pool → ℕ → ℕ → Pool
+abbrev pub withBlocks : Pool → ℕ → Units → Pool
 withBlocks p blocks area = record { granularity = p .granularity; blocks = blocks; empty = p .empty; area = area; used = p .used }
 
--- ---- a block enters: it is the newest, and stands in the order of address before the first one of higher base
+-- ---- a block enters: it is the newest, and its place in the address order is before the first block of higher base
 abbrev pub placeOf : State → Block → ℕ
 placeOf s b = orElse (s .count) (least (s .count) (λ k. ltb (b .base) (blockAt s (ageAt s k) .base)))
 
--- what stands at place j once age stands at place k, and those from there on move up by one
-abbrev pub movedUp : List ℕ → ℕ → ℕ → ℕ → ℕ
+-- the age at place j, after age was put at place k and those from there on moved up by one
+abbrev pub movedUp : List Age → ℕ → Age → ℕ → Age
 movedUp order k age j = pick (ltb j k) (getD order j 0) (pick (eqb j k) age (getD order (j - 1) 0))
 
 abbrev pub inserted : State → Block → State
 inserted s b =
-    withTable s (s .count + 1) (set (s .blocks) (s .count) b) (listFrom 0 64 (movedUp (s .order) (placeOf s b) (s .count)))
+    withTable s (s .count + 1) (set (s .blocks) (s .count) b) (listFrom 0 slotLimit (movedUp (s .order) (placeOf s b) (s .count)))
     (set (s .pools) (b .pool) (withBlocks (poolAt s (b .pool)) (poolAt s (b .pool) .blocks + 1) (poolAt s (b .pool) .area + b .area)))
 
--- ---- the block of age i leaves: later records move up, later positions fall by one, zeros behind
--- the next but for what stands before i
+-- ---- the block of age i leaves: later ages fall by one, and zeros follow the last block
+-- where entry k comes from: from k before i, from k + 1 from there on
 abbrev pub past : ℕ → ℕ → ℕ
 past i k = pick (ltb k i) k (k + 1)
 
-abbrev pub fallen : ℕ → ℕ → ℕ
+abbrev pub fallen : Age → Age → Age
 fallen i age = pick (ltb i age) (age - 1) age
 
--- where it stands in the order of address
-abbrev pub placeIn : List ℕ → ℕ → ℕ → ℕ
+-- its place in the address order
+abbrev pub placeIn : List Age → ℕ → Age → ℕ
 placeIn order count i = orElse count (least count (λ k. eqb (getD order k 0) i))
 
-abbrev pub placeOfAge : State → ℕ → ℕ
+abbrev pub placeOfAge : State → Age → ℕ
 placeOfAge s i = placeIn (s .order) (s .count) i
 
-abbrev pub removed : State → ℕ → State
+abbrev pub removed : State → Age → State
 removed s i =
-    withTable s (s .count - 1) (listFrom 0 64 (λ k. getD (s .blocks) (past i k) zeroBlock))
-    (listFrom 0 64 (λ k. fallen i (getD (s .order) (past (placeOfAge s i) k) 0)))
+    withTable s (s .count - 1) (listFrom 0 slotLimit (λ k. getD (s .blocks) (past i k) zeroBlock))
+    (listFrom 0 slotLimit (λ k. fallen i (getD (s .order) (past (placeOfAge s i) k) 0)))
     (set (s .pools) (blockAt s i .pool)
     (withBlocks (poolAt s (blockAt s i .pool)) (poolAt s (blockAt s i .pool) .blocks - 1) (poolAt s (blockAt s i .pool) .area - blockAt s i .area)))

@@ -1,14 +1,17 @@
--- The lowest number that passes a test, and what is found by it: a block by address, a slot, a place in the arena, a pool's newest block. Assumes nothing.
+-- The lowest number that passes a test, and what is found by it: a block by address, a slot, a place in the arena, a pool's newest block.
+-- Assumes nothing.
 use Prim.Native.Nat.{ℕ, zero, suc, _+_, _*_, _/_}
 use mathlib.Core.Bool.{Bool, not, _&&_}
 use lib.Dec.{leb, ltb, eqb}
+use Rattle.numbers.specs.Names.{Address, Bytes}
 use Rattle.numbers.specs.Pick.{pick}
+use Rattle.sizes.specs.Limits.{page}
 use Rattle.block.specs.declared.Block.{Block}
 use Rattle.state.specs.declared.State.{State}
 use Rattle.state.specs.declared.Found.{Found}
 use Rattle.state.specs.declared.Found.the-variants.{At, Nothing}
 use Rattle.state.specs.declared.Place.{Place}
-use Rattle.state.specs.declared.Place.the-variants.{Address, Nowhere}
+use Rattle.state.specs.declared.Place.the-variants.{Base, Nowhere}
 use Rattle.state.specs.Table.{blockAt, all}
 
 -- the lowest of the n numbers from k on that passes
@@ -26,10 +29,10 @@ latest zero test = Nothing
 latest (suc n) test = pick (test n) (At n) (latest n test)
 
 -- ---- the block that holds an address
-abbrev pub holds : Block → ℕ → Bool
+abbrev pub holds : Block → Address → Bool
 holds b a = leb (b .base) a && ltb a (b .base + b .size)
 
-abbrev pub lookup : State → ℕ → Found
+abbrev pub lookup : State → Address → Found
 lookup s a = least (s .count) (λ i. holds (blockAt s i) a)
 
 -- ---- the lowest free slot
@@ -40,33 +43,33 @@ abbrev pub lowestSlot : State → Found
 lowestSlot s = least (s .slots) (slotFree s)
 
 -- ---- the lowest place for size bytes: a multiple of 65,536 where they lie within the arena and meet no standing block
-abbrev pub clear : Block → ℕ → ℕ → Bool
+abbrev pub clear : Block → Address → Bytes → Bool
 clear b at size = not (ltb (b .base) (at + size) && ltb at (b .base + b .size))
 
--- the k-th multiple in the arena, whose base is one
-abbrev pub placeAt : State → ℕ → ℕ
-placeAt s k = s .arena + 65536 * k
+-- the k-th multiple of 65,536 in the arena, whose base is one
+abbrev pub placeAt : State → ℕ → Address
+placeAt s k = s .arena + page * k
 
-abbrev pub placeFree : State → ℕ → ℕ → Bool
+abbrev pub placeFree : State → Bytes → ℕ → Bool
 placeFree s size k =
     leb (placeAt s k + size) (s .arena + s .length) && all (s .count) (λ i. clear (blockAt s i) (placeAt s k) size)
 
 abbrev pub placed : State → Found → Place
-placed s (At k) = Address (placeAt s k)
+placed s (At k) = Base (placeAt s k)
 placed s Nothing = Nowhere
 
 -- the arena's length is a multiple of 65,536 too
-abbrev pub lowestPlace : State → ℕ → Place
-lowestPlace s size = placed s (least (s .length / 65536) (placeFree s size))
+abbrev pub lowestPlace : State → Bytes → Place
+lowestPlace s size = placed s (least (s .length / page) (placeFree s size))
 
 -- ---- a pool's newest block
 abbrev pub newest : State → ℕ → Found
 newest s p = latest (s .count) (λ i. eqb (blockAt s i .pool) p)
 
--- the size to start a new block of the pool from
-abbrev pub sizeOr : State → Found → ℕ
+-- the size that a new block of the pool starts from
+abbrev pub sizeOr : State → Found → Bytes
 sizeOr s (At i) = blockAt s i .size
 sizeOr s Nothing = s .size
 
-abbrev pub newestSize : State → ℕ → ℕ
+abbrev pub newestSize : State → ℕ → Bytes
 newestSize s p = sizeOr s (newest s p)

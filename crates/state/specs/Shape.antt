@@ -1,35 +1,36 @@
--- Document 01, BadShape: its clauses as they are printed, in their order. A state is BadShape if one of them fails. No word is read, only the two
--- lengths. Assumes nothing.
+-- Document 01, BadShape: its clauses as they are printed, in their order. A state is BadShape if one of them fails. The clauses read no
+-- word, only the two lengths. Assumes nothing.
 use Prim.Native.Nat.{ℕ, _+_, _-_, _*_, _%_, _^_}
 use mathlib.Core.Bool.{Bool, true, not, _&&_, _||_}
 use mathlib.Core.List.{List, [], _∷_}
 use lib.Dec.{leb, ltb, eqb}
+use Rattle.numbers.specs.Names.{Address, Bytes, Age}
 use Rattle.numbers.specs.Pick.{pick}
 use Rattle.block.specs.declared.Block.{Block}
 use Rattle.block.specs.Record.{emptyFlag, dirtyFlag, isOn}
-use Rattle.sizes.specs.Limits.{isGranularity, isBaseSize}
+use Rattle.sizes.specs.Limits.{isGranularity, isBaseSize, page, maxSlotWords, slotLimit}
 use Rattle.state.specs.declared.State.{State}
 use Rattle.state.specs.Table.{blockAt, ageAt, poolAt, all, allPairs, sum, one, only}
 
--- every one of a list of tests
+-- every one of a list of tests passes
 abbrev pub every : List Bool → Bool
 every [] = true
 every (t ∷ ts) = t && every ts
 
 -- ---- creation's numbers
 -- base and length non-zero multiples of 65,536, base plus length at most 2^48
-abbrev pub arenaOk : ℕ → ℕ → Bool
+abbrev pub arenaOk : Address → Bytes → Bool
 arenaOk base length =
-    every (not (eqb base 0) ∷ not (eqb length 0) ∷ eqb (base % 65536) 0 ∷ eqb (length % 65536) 0 ∷ leb (base + length) (2 ^ 48) ∷ [])
+    every (not (eqb base 0) ∷ not (eqb length 0) ∷ eqb (base % page) 0 ∷ eqb (length % page) 0 ∷ leb (base + length) (2 ^ 48) ∷ [])
 
 -- creation's numbers in the record within the limits
 abbrev pub numbersOk : State → Bool
 numbersOk s =
-    every (isBaseSize (s .size) ∷ isGranularity (s .granularity) ∷ (eqb (s .poolcount) 1 || eqb (s .poolcount) 3) ∷ leb 1 (s .w) ∷ leb (s .w) 16384 ∷ arenaOk (s .arena) (s .length) ∷ [])
+    every (isBaseSize (s .size) ∷ isGranularity (s .granularity) ∷ (eqb (s .poolcount) 1 || eqb (s .poolcount) 3) ∷ leb 1 (s .w) ∷ leb (s .w) maxSlotWords ∷ arenaOk (s .arena) (s .length) ∷ [])
 
 -- slots 1 to 64
 abbrev pub slotsOk : State → Bool
-slotsOk s = leb 1 (s .slots) && leb (s .slots) 64
+slotsOk s = leb 1 (s .slots) && leb (s .slots) slotLimit
 
 -- lent slices not shorter than slots times W
 abbrev pub slicesOk : State → ℕ → ℕ → Bool
@@ -46,7 +47,7 @@ placeOk s b = ltb (b .slot) (s .slots) && ltb (b .pool) (s .poolcount)
 
 -- the base a multiple of 65,536
 abbrev pub baseOk : Block → Bool
-baseOk b = eqb (b .base % 65536) 0
+baseOk b = eqb (b .base % page) 0
 
 -- the area not 0, a multiple of 32, times g its size, and not past its slot
 abbrev pub areaOk : State → Block → Bool
@@ -82,7 +83,7 @@ apart a b = not (eqb (a .slot) (b .slot)) && not (meet a b)
 
 -- ---- pools
 -- of the blocks of pool p: how many they are, how many are flagged empty, their areas and their used units
-abbrev pub inPool : State → ℕ → ℕ → Bool
+abbrev pub inPool : State → ℕ → Age → Bool
 inPool s p i = eqb (blockAt s i .pool) p
 
 abbrev pub emptiesOf : State → ℕ → ℕ
@@ -109,7 +110,7 @@ abbrev pub liveOk : State → Bool
 liveOk s = leb (s .live) (sum (s .count) (λ i. blockAt s i .used))
 
 -- the address order every block once ..
-abbrev pub onceOk : State → ℕ → Bool
+abbrev pub onceOk : State → Age → Bool
 onceOk s i = eqb (sum (s .count) (λ k. one (eqb (ageAt s k) i))) 1
 
 -- .. by rising base
@@ -146,7 +147,7 @@ clauses s usedWords stopWords =
     ∷ all 3 (emptiesOk s)
     ∷ liveOk s
     ∷ orderOk s
-    ∷ all 64 (zeroOk s)
+    ∷ all slotLimit (zeroOk s)
     ∷ all (s .count) (λ i. flagsOk (blockAt s i))
     ∷ []
 

@@ -2,7 +2,9 @@
 use Prim.Native.Nat.{ℕ, zero, suc, _+_}
 use mathlib.Core.Bool.{Bool, true, false, _&&_}
 use lib.ListN.{getD, replicate}
+use Rattle.numbers.specs.Names.{Age}
 use Rattle.numbers.specs.Pick.{pick}
+use Rattle.sizes.specs.Limits.{slotLimit}
 use Rattle.block.specs.declared.Block.{Block}
 use Rattle.sizes.specs.declared.Pool.{Pool}
 use Rattle.sizes.specs.Pools.{freshPool}
@@ -23,16 +25,16 @@ zeroState = record {
   length = 0;
   live = 0;
   count = 0;
-  blocks = replicate 64 zeroBlock;
-  order = replicate 64 0;
+  blocks = replicate slotLimit zeroBlock;
+  order = replicate slotLimit 0;
   pools = replicate 3 (freshPool 0);
 }
 
 -- the block of age i; the age of the block at place k in order of address; pool p
-abbrev pub blockAt : State → ℕ → Block
+abbrev pub blockAt : State → Age → Block
 blockAt s i = getD (s .blocks) i zeroBlock
 
-abbrev pub ageAt : State → ℕ → ℕ
+abbrev pub ageAt : State → ℕ → Age
 ageAt s k = getD (s .order) k 0
 
 abbrev pub poolAt : State → ℕ → Pool

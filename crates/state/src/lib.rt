@@ -1,44 +1,48 @@
-// The allocator's record: what creation fixed, the blocks in order of age, their positions in order of address, and the pools.
+// The allocator's record: what creation fixed, the blocks by age, their ages by address, and the pools.
 use block::Block;
 use sizes::Pool;
 ghost use mathlib.Core.Path.{_≡_};
 ghost use Prim.Native.Nat.{_<_};
+ghost use Rattle.sizes.specs.Limits.{slotLimit};
 ghost use Rattle.state.specs.Table.{zeroBlock, zeroState, blockAt, poolAt};
 ghost use Rattle.state.specs.Outcome.{refusal};
 
-// How many blocks the table holds, and so the most slots that are ever in force.
+// The most blocks that the table holds, and so the most slots.
 pub const SLOT_LIMIT: usize = 64;
 
+// The most words to a slot.
+pub const MAX_SLOT_WORDS: usize = 16384;
+
 pub struct State {
-    // the base block size, the granularity, how many pools and whether empty blocks go at once, as in force
+    // in force: the base block size, the granularity, the number of pools, and immediate release (no empty block is kept)
     pub size: u64,
     pub granularity: u64,
     pub poolcount: usize,
     pub immediate: bool,
-    // words to a slot, and slots
+    // words per slot (W), and slots
     pub w: usize,
     pub slots: usize,
     // where the arena starts, and its length
     pub arena: u64,
     pub length: u64,
-    // live spans, and standing blocks
+    // how many spans are live, and how many blocks there are
     pub live: u64,
     pub count: usize,
-    // the blocks by age; `order` has their positions by rising base. Zeros behind both.
-    pub blocks: [Block; 64],
-    pub order: [usize; 64],
+    // the blocks, oldest first; `order` has their ages by rising base. After the last block both have zeros.
+    pub blocks: [Block; SLOT_LIMIT],
+    pub order: [usize; SLOT_LIMIT],
     pub pools: [Pool; 3],
 }
 
-// What a search of the table finds: an age or a slot.
+// What a search of the table finds: a block's age, or a slot.
 pub enum Found {
     At(usize),
     Nothing,
 }
 
-// Where a new block can stand.
+// A place for a new block in the arena.
 pub enum Place {
-    Address(u64),
+    Base(u64),
     Nowhere,
 }
 
@@ -59,7 +63,7 @@ pub fn zero_block() -> Block
     }
 }
 
-// The record of zeros that a refused creation hands back.
+// Makes the record of zeros that a refused creation returns.
 pub fn zero_state() -> State
     ensures { λ r. ⌜ r ≡ zeroState ⌝ }
 {
@@ -74,8 +78,8 @@ pub fn zero_state() -> State
         length: 0,
         live: 0,
         count: 0,
-        blocks: [zero_block(); 64],
-        order: [0; 64],
+        blocks: [zero_block(); SLOT_LIMIT],
+        order: [0; SLOT_LIMIT],
         pools: [Pool::new(0); 3],
     }
 }
@@ -86,7 +90,7 @@ pub struct Span {
     pub size: u64,
 }
 
-// Document 01's refusals but for the trace's own; `number` of machine/specs/Turn.antt has their numbers.
+// Document 01's refusals except the trace's own; `number` of machine/specs/Turn.antt has their numbers.
 pub enum Refusal {
     InvalidArgument,
     TooLarge,
@@ -96,7 +100,7 @@ pub enum Refusal {
     Damaged,
 }
 
-// What a call answers. `Created` has the base size, the granularity and the pools in force.
+// What a call answers. `Created` has the base size, the granularity and the number of pools in force.
 pub enum Answer {
     Created(u64, u64, usize),
     Granted(Span),
@@ -107,11 +111,11 @@ pub enum Answer {
     Refused(Refusal),
 }
 
-// What stands at an address of a block: no span starts there; one does, and no stop bit follows; or the span's units, from the first up to the end.
+// What starts at an address of a block: no span; one that has no stop bit; or a span, from its first unit up to its end.
 pub enum Held {
     NoSpan,
     NoStop,
-    Units(u32, u32),
+    Range(u32, u32),
 }
 
 // A place that a search of a pool found: a block's age and a unit in it.
@@ -120,19 +124,19 @@ pub enum Hit {
     Nowhere,
 }
 
-// What a search of a pool leaves: the place, and the record with the windows that it tightened.
+// The result of a search of a pool: the place, and the record with the windows that the search tightened.
 pub struct Searched {
     pub hit: Hit,
     pub state: State,
 }
 
-// What a call hands back beside the two maps.
+// What a call returns; it writes the two maps in place.
 pub struct Outcome {
     pub answer: Answer,
     pub state: State,
 }
 
-// A refusal that changes nothing.
+// Refuses, and changes nothing.
 pub fn refused(s: State, why: Refusal) -> Outcome
     ensures { λ r. ⌜ r ≡ refusal s why ⌝ }
 {
@@ -144,9 +148,9 @@ pub fn refused(s: State, why: Refusal) -> Outcome
 
 // ---- the table by its entries
 
-// The block of age `j`.
+// Returns the block of age `j`.
 pub fn block_at(s: State, j: usize) -> Block
-    requires { ⌜ j < 64 ⌝ }
+    requires { ⌜ j < slotLimit ⌝ }
     ensures { λ r. ⌜ r ≡ blockAt s j ⌝ }
 {
     s.blocks[j]

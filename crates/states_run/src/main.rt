@@ -1,5 +1,6 @@
-// Plays cases through the public calls: states that no trace reaches, given as numbers. `stdin` has the cases of oracle/states.txt, and `stdout` what
-// the oracle's plain program writes for them (oracle/make-states makes both). oracle/states.py says how a case is laid out and what is written.
+// Makes the public calls on given states, also on states that no trace reaches. `stdin` has the cases of oracle/states.txt, and `stdout`
+// what the oracle's plain program writes for them (oracle/make-states makes both). oracle/states.py says how a case is laid out and what
+// is written.
 use block::Block;
 use records::Asked;
 use records::Call;
@@ -11,7 +12,7 @@ ghost use lib.ListN.{length};
 
 // ---- numbers
 
-// Eight bytes, the lowest first.
+// Reads eight bytes, the lowest first.
 fn read_u64() -> u64 {
     let mut bytes: [u8; 8] = [0; 8];
     io::read_full(0, &mut bytes);
@@ -28,7 +29,7 @@ fn wide(byte: u8) -> u64 {
     byte as u64
 }
 
-// A number of 32 bits: the upper half is passed over.
+// Reads eight bytes, and drops the upper half.
 fn read_u32() -> u32 {
     (read_u64() % 4294967296) as u32
 }
@@ -54,7 +55,7 @@ fn read_pool() -> Pool {
     }
 }
 
-// The record with no entry yet: its head and its pools.
+// Reads a record's numbers and its pools; it has no block yet.
 fn read_state() -> State {
     let size = read_u64();
     let granularity = read_u64();
@@ -77,8 +78,8 @@ fn read_state() -> State {
         length,
         live,
         count,
-        blocks: [state::zero_block(); 64],
-        order: [0; 64],
+        blocks: [state::zero_block(); state::SLOT_LIMIT],
+        order: [0; state::SLOT_LIMIT],
         pools: [read_pool(), read_pool(), read_pool()],
     }
 }
@@ -108,7 +109,7 @@ fn read_block() -> Block {
     }
 }
 
-// An entry of both lists: its place, the age that stands there by address, and the block of that age.
+// Reads an index, and the entries of `order` and of `blocks` at it.
 fn put_entry(s: State) -> State {
     let mut r = s;
     let i = read_usize();
@@ -121,7 +122,7 @@ fn put_entry(s: State) -> State {
     r
 }
 
-// All words of a map: up to where they are alike, and the word.
+// Reads all words of a map, as runs of equal words: each run's end, and its word.
 fn put_words(words: &mut [u32]) {
     let mut end: usize = 0;
     let mut word: u32 = 0;
@@ -207,7 +208,7 @@ fn show_entry(i: usize, age: usize, b: Block) {
 
 fn show_entries(s: State) {
     let mut i: usize = 0;
-    while i < 64 {
+    while i < state::SLOT_LIMIT {
         show_entry(i, s.order[i], s.blocks[i]);
         i += 1;
     }
@@ -222,7 +223,7 @@ fn word_line(name: &[u8], i: usize, word: u32) {
     io::write_all(1, b"\n");
 }
 
-// Each word that is unlike the one before it; the words start from 0.
+// Writes each word that differs from the one before it; the first is compared with 0.
 fn show_words(name: &[u8], words: &[u32]) {
     let mut before: u32 = 0;
     let mut i: usize = 0;
@@ -255,7 +256,7 @@ fn read_asked() -> Asked {
     }
 }
 
-// The calls by their kinds in a trace.
+// Reads a call by its kind in a trace.
 fn read_call(kind: u64) -> Call {
     match kind {
         1 => Call::Create(read_asked()),
@@ -268,7 +269,8 @@ fn read_call(kind: u64) -> Call {
     }
 }
 
-// A refused creation hands back a record of zeros, and the case goes on with that: a trace goes on with the record before it, so that is zeros here.
+// Returns the state to hand to a call: zeros for a creation. If a creation is refused, `calls` returns the state before it, but a case must
+// go on with the record of zeros that `create` returns.
 fn before(s: State, kind: u64) -> State {
     if kind == 1 {
         return state::zero_state();
@@ -299,7 +301,7 @@ fn show_all(s: State, used: &[u32], stop: &[u32]) {
     show_words(b"stop", stop);
 }
 
-// A step: a call, an entry of the lists, or all that isn't zero shown.
+// Plays a step: makes a call, puts an entry into the lists, or shows all that isn't zero.
 fn play(s: State, used: &mut [u32], stop: &mut [u32], kind: u64) -> State {
     if kind == 8 {
         return put_entry(s);
@@ -311,7 +313,7 @@ fn play(s: State, used: &mut [u32], stop: &mut [u32], kind: u64) -> State {
     play_call(s, used, stop, kind)
 }
 
-// How often a loop turns at most: with a bound it ends whatever the input is.
+// Bounds the loops, so that they end whatever the input is.
 const TURNS: u32 = 1000000;
 
 fn play_steps(used: &mut [u32], stop: &mut [u32]) {
@@ -329,7 +331,7 @@ fn play_steps(used: &mut [u32], stop: &mut [u32]) {
     }
 }
 
-// The lengths of the case's slices, and its steps on so many words.
+// Reads the lengths of the case's slices, and plays its steps on so many words.
 fn play_lent(used: &mut [u32], stop: &mut [u32]) {
     let u = read_usize();
     let t = read_usize();
@@ -347,7 +349,7 @@ fn map_words() -> [u32; 262144]
     [0; 262144]
 }
 
-// A label is a line of 64 bytes.
+// Copies the case's label, a line of 64 bytes, to the output.
 fn label_line() {
     let mut bytes: [u8; 64] = [0; 64];
     let n = io::read_full(0, &mut bytes);

@@ -7,15 +7,16 @@ use native.Mathlib.Omega.{arith}
 use borrow.Author.Tests.{le-leb, lt-leb, lt-ltb, le-ltb}
 use lib.Dec.{lit<, leb}
 use Rattle.numbers.specs.Align.{alignUp}
+use Rattle.numbers.proofs.Bools.{and-both, and-fails-left, and-fails-right}
 use Rattle.numbers.proofs.Align.{up-low, up-high, up-divides}
 use Rattle.numbers.proofs.Split.{by-eq, by-le}
 use Rattle.block.specs.declared.Block.{Block}
 use Rattle.state.specs.declared.State.{State}
 use Rattle.state.specs.declared.Found.the-variants.{At, Nothing}
-use Rattle.state.specs.declared.Place.the-variants.{Address, Nowhere}
+use Rattle.state.specs.declared.Place.the-variants.{Base, Nowhere}
 use Rattle.state.specs.Table.{blockAt, ageAt, all}
 use Rattle.state.specs.Find.{clear, placeAt, placeFree, placed, lowestPlace}
-use Rattle.state.proofs.Tests.{and-both, and-fails-left, and-fails-right, all-of, all-fails}
+use Rattle.state.proofs.Tests.{all-of, all-fails}
 use Rattle.state.proofs.Find.{least-only}
 use Rattle.table.specs.Ordered.{Arranged}
 
@@ -31,13 +32,13 @@ clear-in b at size p q = rw (lt-ltb (b .base) (at + size) p, lt-ltb at (b .base 
 pub record Above (x r : ℕ) : Type 0 where
   pub low : x ≤ r
   pub high : r < x + 65536
-  pub even : r % 65536 ≡ 0
+  pub whole : r % 65536 ≡ 0
 
 pub above : (x : ℕ) → x ≤ 2 ^ 48 → Above x (alignUp x 65536)
 above x h = record {
   low = up-low x 65536 (lit< tt) (omega arith);
   high = up-high x 65536 (lit< tt) (omega arith);
-  even = up-divides x 65536 16 (lit< tt) (omega arith) (omega arith) refl;
+  whole = up-divides x 65536 16 (lit< tt) (omega arith) (omega arith) refl;
 }
 
 module _ (s : State) (r : Arranged s) (size : ℕ) where
@@ -51,7 +52,7 @@ module _ (s : State) (r : Arranged s) (size : ℕ) where
   -- the walk has passed k blocks, and at is the lowest multiple that may still do
   pub record Passed (k at : ℕ) : Type 0 where
     pub within : k ≤ s .count
-    pub even : at % 65536 ≡ 0
+    pub whole : at % 65536 ≡ 0
     pub low : s .arena ≤ at
     pub high : at ≤ s .arena + s .length
     pub behind : (j : ℕ) → j < k → here j .base + here j .size ≤ at
@@ -61,7 +62,7 @@ module _ (s : State) (r : Arranged s) (size : ℕ) where
   pub passed-none : Passed 0 (s .arena)
   passed-none = record {
     within = omega arith;
-    even = r .arena;
+    whole = r .arena;
     low = omega arith;
     high = omega arith;
     behind = λ j h. absurd (omega arith);
@@ -78,13 +79,13 @@ module _ (s : State) (r : Arranged s) (size : ℕ) where
       let some = r .some (ageAt s k) i in
       record {
         within = omega arith;
-        even = a .even;
+        whole = a .whole;
         low = omega (arith, low, a .low);
-        high = omega (arith, high, a .high, a .even, r .arena, r .length);
+        high = omega (arith, high, a .high, a .whole, r .arena, r .length);
         behind = λ j g. by-eq j k (λ e. rw e (a .low)) (λ ne. omega (arith, o .behind j k (omega (arith, ne)) h, a .low));
-        before = λ j g m. omega (arith, o .behind k j (omega arith) m, a .high, a .even, r .base (ageAt s j) (o .age j m));
+        before = λ j g m. omega (arith, o .behind k j (omega arith) m, a .high, a .whole, r .base (ageAt s j) (o .age j m));
         blocked = λ q g m e. by-le at q
-            (λ n. (ageAt s k, i, clear-in (here k) q size (omega (arith, l)) (omega (arith, a .high, a .even))))
+            (λ n. (ageAt s k, i, clear-in (here k) q size (omega (arith, l)) (omega (arith, a .high, a .whole))))
             (λ n. p .blocked q g n e);
       }
 
@@ -115,14 +116,14 @@ module _ (s : State) (r : Arranged s) (size : ℕ) where
   -- ---- the answers
   -- at is clear of every block: the rule's answer
   place-here : (k at : ℕ) → 0 < size → Passed k at → at + size ≤ s .arena + s .length → ((l : ℕ) → k ≤ l → l < s .count → at + size ≤ here l .base)
-      → Address at ≡ lowestPlace s size
+      → Base at ≡ lowestPlace s size
   place-here k at pos p h f =
-      let e = at-index at (p .even) (p .low) in
+      let e = at-index at (p .whole) (p .low) in
       let free : (i : ℕ) → i < s .count → clear (blockAt s i) at size ≡ true = λ i g.
       let w = r .ordered .has i g in
       subst (λ (n : ℕ). clear (blockAt s n) at size ≡ true) (w .2)
       (clear-out (here (w .0)) at size (by-le k (w .0) (λ m. inl (f (w .0) m (w .1))) (λ m. inr (p .behind (w .0) m)))) in
-      sym (ap Address e)
+      sym (ap Base e)
       ∙ ap (placed s)
       (least-only (s .length / 65536) (placeFree s size) (At (index at))
       (record {
@@ -132,13 +133,13 @@ module _ (s : State) (r : Arranged s) (size : ℕ) where
         before = λ j x l. blocked-here j (p .blocked (placeAt s j) (omega arith) (omega (arith, e)) (omega (arith, r .arena)));
       }))
 
-  pub place-gap : (k at : ℕ) → 0 < size → Passed k at → k < s .count → at + size ≤ here k .base → Address at ≡ lowestPlace s size
+  pub place-gap : (k at : ℕ) → 0 < size → Passed k at → k < s .count → at + size ≤ here k .base → Base at ≡ lowestPlace s size
   place-gap k at pos p h g =
       let o = r .ordered in
       place-here k at pos p (omega (arith, r .high (ageAt s k) (o .age k h)))
       (λ l m n. by-eq l k (λ e. rw e g) (λ ne. omega (arith, o .behind k l (omega (arith, ne)) n)))
 
-  pub place-last : (at : ℕ) → 0 < size → Passed (s .count) at → at + size ≤ s .arena + s .length → Address at ≡ lowestPlace s size
+  pub place-last : (at : ℕ) → 0 < size → Passed (s .count) at → at + size ≤ s .arena + s .length → Base at ≡ lowestPlace s size
   place-last at pos p h = place-here (s .count) at pos p h (λ l m n. absurd (omega arith))
 
   pub place-none : (at : ℕ) → Passed (s .count) at → s .arena + s .length < at + size → Nowhere ≡ lowestPlace s size

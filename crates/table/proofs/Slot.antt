@@ -4,16 +4,17 @@ use mathlib.Core.Bool.{Bool, true, false, not}
 use mathlib.Core.List.{List}
 use mathlib.Core.Path.{_≡_, refl, sym, ap, _∙_}
 use native.Mathlib.Omega.{arith}
-use borrow.Author.Tests.{eq-eqb, ne-eqb}
+use borrow.Author.Tests.{eq-eqb, ne-eqb, not-true, not-false}
 use lib.Dec.{eqb}
 use lib.ListN.{getD, set, replicate, length-set}
 use lib.Seq.{getD-set-same, getD-set-other}
+use Rattle.numbers.proofs.Bools.{and-true}
 use Rattle.numbers.proofs.Split.{by-eq}
 use Rattle.state.specs.declared.State.{State}
 use Rattle.state.specs.declared.Found.the-variants.{At, Nothing}
 use Rattle.state.specs.Table.{blockAt, all}
 use Rattle.state.specs.Find.{slotFree, lowestSlot}
-use Rattle.state.proofs.Tests.{all-more, all-fails, and-true}
+use Rattle.state.proofs.Tests.{all-more, all-fails}
 use Rattle.state.proofs.Find.{least-only}
 use Rattle.table.specs.Ordered.{TakenSlots}
 
@@ -42,20 +43,12 @@ taken-more s i taken t h = record {
       getD-set-other taken (blockAt s i .slot) k true false ne ∙ t .says k l ∙ sym (ap not same));
 }
 
-not-not : (b c : Bool) → c ≡ not b → c ≡ false → b ≡ true
-not-not true c p q = refl
-not-not false c p q = sym q ∙ p
-
-not-yes : (b c : Bool) → c ≡ not b → c ≡ true → b ≡ false
-not-yes true c p q = sym q ∙ p
-not-yes false c p q = refl
-
 module _ (s : State) (taken : List Bool) (t : TakenSlots s (s .count) taken) (few : s .slots ≤ 64) where
   pub slot-free : (k : ℕ) → k < s .slots → getD taken k false ≡ false → slotFree s k ≡ true
-  slot-free k h e = not-not (slotFree s k) (getD taken k false) (t .says k (omega arith)) e
+  slot-free k h e = not-false (slotFree s k) (sym (t .says k (omega arith)) ∙ e)
 
   pub slot-taken : (k : ℕ) → k < s .slots → getD taken k false ≡ true → slotFree s k ≡ false
-  slot-taken k h e = not-yes (slotFree s k) (getD taken k false) (t .says k (omega arith)) e
+  slot-taken k h e = not-true (slotFree s k) (sym (t .says k (omega arith)) ∙ e)
 
   pub slot-here : (k : ℕ) → k < s .slots → ((j : ℕ) → j < k → slotFree s j ≡ false) → getD taken k false ≡ false → At k ≡ lowestSlot s
   slot-here k h f e =

@@ -1,19 +1,25 @@
-// A block enters the table. `insert_block` in the Rust, with two arrays in place of the list and the tree.
+// Enters a block into the table. `insert_block` in the Rust, with two arrays in place of the list and the tree.
 use block::Block;
 use sizes::Pool;
 use state::State;
 ghost use mathlib.Core.Path.{_≡_};
 ghost use Prim.Native.Nat.{ℕ, _+_, _≤_, _<_};
 ghost use lib.ListN.{length, getD};
+ghost use Rattle.sizes.specs.Limits.{slotLimit};
 ghost use Rattle.state.specs.Table.{ageAt};
 ghost use Rattle.table.specs.Changeable.{Insertable};
 ghost use Rattle.state.specs.Change.{listFrom, movedUp, placeOf, inserted};
 
-// The order of address with `age` at `place`, those from there on moved up by one.
-fn with_age(order: [usize; 64], place: usize, count: usize, age: usize) -> [usize; 64]
-    requires { ⌜ (place ≤ count) × (count < 64) × (length order ≡ 64) ⌝ }
+// Puts `age` at `place` into the address order, and moves the ages from there on up by one.
+fn with_age(
+    order: [usize; state::SLOT_LIMIT],
+    place: usize,
+    count: usize,
+    age: usize,
+) -> [usize; state::SLOT_LIMIT]
+    requires { ⌜ (place ≤ count) × (count < slotLimit) × (length order ≡ slotLimit) ⌝ }
     requires { ⌜ ((k : ℕ) → count ≤ k → getD order k 0 ≡ 0) ⌝ }
-    ensures { λ r. ⌜ r ≡ listFrom 0 64 (movedUp order place age) ⌝ }
+    ensures { λ r. ⌜ r ≡ listFrom 0 slotLimit (movedUp order place age) ⌝ }
 {
     let mut r = order;
     let mut k = count;
@@ -25,9 +31,9 @@ fn with_age(order: [usize; 64], place: usize, count: usize, age: usize) -> [usiz
     r
 }
 
-// Where a block stands in the order of address: before the first one of higher base.
+// Returns a new block's place in the address order: before the first block of higher base.
 fn place_of(s: State, b: Block) -> usize
-    requires { ⌜ (s .count ≤ 64) × ((k : ℕ) → k < s .count → ageAt s k < 64) ⌝ }
+    requires { ⌜ (s .count ≤ slotLimit) × ((k : ℕ) → k < s .count → ageAt s k < slotLimit) ⌝ }
     ensures { λ r. ⌜ r ≡ placeOf s b ⌝ }
 {
     let mut k: usize = 0;
@@ -42,7 +48,7 @@ fn place_of(s: State, b: Block) -> usize
     k
 }
 
-// A block becomes the newest of the table.
+// Enters a block as the newest.
 pub fn insert_block(s: State, b: Block) -> State
     requires { ⌜ Insertable s b ⌝ }
     ensures { λ r. ⌜ r ≡ inserted s b ⌝ }
@@ -52,13 +58,13 @@ pub fn insert_block(s: State, b: Block) -> State
     let old = s.order;
     let order = with_age(old, place, count, count);
     let p = b.pool;
-    let mut pool = s.pools[p];
-    pool.blocks = pool.blocks + 1;
-    pool.area = pool.area + b.area;
+    let mut q = s.pools[p];
+    q.blocks = q.blocks + 1;
+    q.area = q.area + b.area;
     let mut r = s;
     r.blocks[count] = b;
     r.order = order;
-    r.pools[p] = pool;
+    r.pools[p] = q;
     r.count = count + 1;
     r
 }

@@ -1,5 +1,5 @@
-// What the calls ask of the table: the block at an address, the lowest free slot, the lowest place in the arena, the newest block of a pool.
-// Each walks the table once. `insert` and `remove` change it.
+// Searches the table: for the block at an address, the lowest free slot, the lowest place in the arena, the newest block of a pool.
+// `insert` and `remove` change it.
 pub mod insert;
 pub mod remove;
 
@@ -7,13 +7,14 @@ use state::Found;
 use state::Place;
 use state::State;
 ghost use mathlib.Core.Path.{_≡_};
-ghost use Prim.Native.Nat.{_≤_, _<_};
+ghost use Prim.Native.Nat.{_≤_, _<_, _^_};
+ghost use Rattle.sizes.specs.Limits.{slotLimit};
 ghost use Rattle.state.specs.Find.{lookup, lowestSlot, newestSize, lowestPlace};
 ghost use Rattle.table.specs.Ordered.{Ordered, Slotted, TakenSlots, Arranged};
 
-// The size to start a new block of a pool from: its newest block's, or the base size if it has none.
+// Returns the size of the pool's newest block, or the base size if it has none. A new block's size starts from it.
 pub fn newest_size(s: State, pool: usize) -> u64
-    requires { ⌜ s .count ≤ 64 ⌝ }
+    requires { ⌜ s .count ≤ slotLimit ⌝ }
     ensures { λ r. ⌜ r ≡ newestSize s pool ⌝ }
 {
     let mut size = s.size;
@@ -28,7 +29,7 @@ pub fn newest_size(s: State, pool: usize) -> u64
     size
 }
 
-// The block that holds an address: the address order is halved until one is left.
+// Finds the block that holds an address: binary search over the address order.
 pub fn lookup_block(s: State, address: u64) -> Found
     requires { ⌜ Ordered s ⌝ }
     ensures { λ r. ⌜ r ≡ lookup s address ⌝ }
@@ -51,12 +52,12 @@ pub fn lookup_block(s: State, address: u64) -> Found
     Found::Nothing
 }
 
-// The slots that standing blocks have.
-fn taken_slots(s: State) -> [bool; 64]
+// Returns which slots the blocks have.
+fn taken_slots(s: State) -> [bool; state::SLOT_LIMIT]
     requires { ⌜ Slotted s ⌝ }
     ensures { λ r. ⌜ TakenSlots s (s .count) r ⌝ }
 {
-    let mut taken = [false; 64];
+    let mut taken = [false; state::SLOT_LIMIT];
     let mut i: usize = 0;
     while i < s.count {
         let b = s.blocks[i];
@@ -67,7 +68,7 @@ fn taken_slots(s: State) -> [bool; 64]
     taken
 }
 
-// The lowest slot that no standing block has.
+// Finds the lowest slot that no block has.
 pub fn lowest_free_slot(s: State) -> Found
     requires { ⌜ Slotted s ⌝ }
     ensures { λ r. ⌜ r ≡ lowestSlot s ⌝ }
@@ -83,10 +84,10 @@ pub fn lowest_free_slot(s: State) -> Found
     Found::Nothing
 }
 
-// The lowest place in the arena for a block of `size` bytes: the first gap between standing blocks, in order of address, that holds it, from a
-// multiple of 65,536 on; or behind the last.
+// Finds the lowest multiple of 65,536 in the arena where a block of `size` bytes fits: before the first block, in the first gap between
+// blocks that holds it, or after the last one.
 pub fn lowest_place(s: State, size: u64) -> Place
-    requires { ⌜ Arranged s × (0 < size) × (size < 4294967296) ⌝ }
+    requires { ⌜ Arranged s × (0 < size) × (size < 2 ^ 32) ⌝ }
     ensures { λ r. ⌜ r ≡ lowestPlace s size ⌝ }
 {
     let mut at = s.arena;
@@ -95,13 +96,13 @@ pub fn lowest_place(s: State, size: u64) -> Place
         let i = s.order[k];
         let b = s.blocks[i];
         if at + size <= b.base {
-            return Place::Address(at);
+            return Place::Base(at);
         }
-        at = numbers::align_up(b.base + b.size, 65536);
+        at = numbers::align_up(b.base + b.size, sizes::PAGE);
         k += 1;
     }
     if at + size <= s.arena + s.length {
-        return Place::Address(at);
+        return Place::Base(at);
     }
     Place::Nowhere
 }

@@ -1,16 +1,17 @@
-// A block leaves the table. `remove_block` in the Rust, with two arrays in place of the list and the tree.
+// Removes a block from the table. `remove_block` in the Rust, with two arrays in place of the list and the tree.
 use block::Block;
 use state::State;
 ghost use mathlib.Core.Path.{_≡_};
 ghost use Prim.Native.Nat.{ℕ, _≤_, _<_};
 ghost use lib.ListN.{getD};
+ghost use Rattle.sizes.specs.Limits.{slotLimit};
 ghost use Rattle.state.specs.Table.{zeroBlock};
 ghost use Rattle.table.specs.Changeable.{Removable};
 ghost use Rattle.state.specs.Change.{listFrom, past, fallen, placeIn, removed};
 
-// Where the block of an age stands in the order of address.
-fn place_of_age(order: [usize; 64], count: usize, age: usize) -> usize
-    requires { ⌜ count ≤ 64 ⌝ }
+// Returns the place of an age in the address order.
+fn place_of_age(order: [usize; state::SLOT_LIMIT], count: usize, age: usize) -> usize
+    requires { ⌜ count ≤ slotLimit ⌝ }
     ensures { λ r. ⌜ r ≡ placeIn order count age ⌝ }
 {
     let mut k: usize = 0;
@@ -24,7 +25,7 @@ fn place_of_age(order: [usize; 64], count: usize, age: usize) -> usize
 }
 
 fn past_place(i: usize, k: usize) -> usize
-    requires { ⌜ k < 64 ⌝ }
+    requires { ⌜ k < slotLimit ⌝ }
     ensures { λ r. ⌜ r ≡ past i k ⌝ }
 {
     if k < i { k } else { k + 1 }
@@ -36,13 +37,18 @@ fn fallen_age(i: usize, age: usize) -> usize
     if i < age { age - 1 } else { age }
 }
 
-// The order of address without what stands at `place`, an `age`; later ages fall by one.
-fn without_age(order: [usize; 64], place: usize, count: usize, age: usize) -> [usize; 64]
-    requires { ⌜ (place < count) × (count ≤ 64) ⌝ }
+// Takes the `age` at `place` out of the address order; later ages fall by one.
+fn without_age(
+    order: [usize; state::SLOT_LIMIT],
+    place: usize,
+    count: usize,
+    age: usize,
+) -> [usize; state::SLOT_LIMIT]
+    requires { ⌜ (place < count) × (count ≤ slotLimit) ⌝ }
     requires { ⌜ ((k : ℕ) → count ≤ k → getD order k 0 ≡ 0) ⌝ }
-    ensures { λ r. ⌜ r ≡ listFrom 0 64 (λ k. fallen age (getD order (past place k) 0)) ⌝ }
+    ensures { λ r. ⌜ r ≡ listFrom 0 slotLimit (λ k. fallen age (getD order (past place k) 0)) ⌝ }
 {
-    let mut r = [0; 64];
+    let mut r = [0; state::SLOT_LIMIT];
     let mut k: usize = 0;
     while k < count - 1 {
         let from = past_place(place, k);
@@ -52,13 +58,17 @@ fn without_age(order: [usize; 64], place: usize, count: usize, age: usize) -> [u
     r
 }
 
-// The records without that of age `i`; later ones move up.
-fn without_block(blocks: [Block; 64], i: usize, count: usize) -> [Block; 64]
-    requires { ⌜ (i < count) × (count ≤ 64) ⌝ }
+// Takes the block of age `i` out of the list; later ones' ages fall by one.
+fn without_block(
+    blocks: [Block; state::SLOT_LIMIT],
+    i: usize,
+    count: usize,
+) -> [Block; state::SLOT_LIMIT]
+    requires { ⌜ (i < count) × (count ≤ slotLimit) ⌝ }
     requires { ⌜ ((k : ℕ) → count ≤ k → getD blocks k zeroBlock ≡ zeroBlock) ⌝ }
-    ensures { λ r. ⌜ r ≡ listFrom 0 64 (λ k. getD blocks (past i k) zeroBlock) ⌝ }
+    ensures { λ r. ⌜ r ≡ listFrom 0 slotLimit (λ k. getD blocks (past i k) zeroBlock) ⌝ }
 {
-    let mut r = [state::zero_block(); 64];
+    let mut r = [state::zero_block(); state::SLOT_LIMIT];
     let mut k: usize = 0;
     while k < count - 1 {
         let from = past_place(i, k);
@@ -68,7 +78,7 @@ fn without_block(blocks: [Block; 64], i: usize, count: usize) -> [Block; 64]
     r
 }
 
-// The block of age `i` leaves the table.
+// Removes the block of age `i` from the table.
 pub fn remove_block(s: State, i: usize) -> State
     requires { ⌜ Removable s i ⌝ }
     ensures { λ r. ⌜ r ≡ removed s i ⌝ }
@@ -76,9 +86,9 @@ pub fn remove_block(s: State, i: usize) -> State
     let count = s.count;
     let b = s.blocks[i];
     let p = b.pool;
-    let mut pool = s.pools[p];
-    pool.blocks = pool.blocks - 1;
-    pool.area = pool.area - b.area;
+    let mut q = s.pools[p];
+    q.blocks = q.blocks - 1;
+    q.area = q.area - b.area;
     let ages = s.order;
     let place = place_of_age(ages, count, i);
     let order = without_age(ages, place, count, i);
@@ -87,7 +97,7 @@ pub fn remove_block(s: State, i: usize) -> State
     let mut r = s;
     r.blocks = blocks;
     r.order = order;
-    r.pools[p] = pool;
+    r.pools[p] = q;
     r.count = count - 1;
     r
 }

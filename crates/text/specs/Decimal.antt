@@ -13,6 +13,6 @@ unfoldable pub digits : ℕ → ℕ → List ℕ
 digits zero n = []
 digits (suc k) n = pick (ltb n 10) (digit n ∷ []) (digits k (n / 10) ++ (digit (n % 10) ∷ []))
 
--- 64-bit numbers have at most 20
+-- 64-bit numbers have at most 20 digits
 abbrev pub decimal : ℕ → List ℕ
 decimal n = digits 20 n

@@ -1,4 +1,4 @@
--- Bytes written into lent ones from a place on: the lent bytes afterwards, and the place behind. Assumes nothing.
+-- Bytes written into lent ones from an index on: the lent bytes afterwards, and the index after them. Assumes nothing.
 use Prim.Native.Nat.{ℕ, _+_}
 use mathlib.Core.List.{List}
 use mathlib.Core.Path.{_≡_}

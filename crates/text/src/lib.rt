@@ -1,5 +1,5 @@
-// Text, written into lent bytes from an index on: bytes, decimal numbers, and lines of a word, none to three numbers and a line feed. Each function returns
-// the index after what it wrote.
+// Writes text into lent bytes from an index on: bytes, decimal numbers, and lines of a word, none to three numbers and a line feed. Each
+// function returns the index after what it wrote.
 ghost use mathlib.Core.List.{[], _∷_};
 ghost use Prim.Native.Nat.{_+_, _≤_, _<_};
 ghost use lib.ListN.{length};
@@ -27,7 +27,7 @@ pub fn put_byte(out: &mut [u8], at: usize, byte: u8) -> usize
     at + 1
 }
 
-// The digits in front of the last one come first.
+// Writes a number in decimal: first the digits before the last one, then that.
 fn put_decimal(out: &mut [u8], at: usize, n: u64) -> usize
     requires { ⌜ at + 20 ≤ length (now out) ⌝ }
     ensures { λ r. ⌜ Puts (now (out .entry)) at (decimal n) (now (out .exit)) r ⌝ }
@@ -39,7 +39,7 @@ fn put_decimal(out: &mut [u8], at: usize, n: u64) -> usize
     put_byte(out, last, b'0' + (n % 10) as u8)
 }
 
-// A space and a number.
+// Writes a space and a number.
 pub fn put_number(out: &mut [u8], at: usize, n: u64) -> usize
     requires { ⌜ at + 21 ≤ length (now out) ⌝ }
     ensures { λ r. ⌜ Puts (now (out .entry)) at (32 ∷ decimal n) (now (out .exit)) r × (r ≤ at + 21) ⌝ }
@@ -50,7 +50,7 @@ pub fn put_number(out: &mut [u8], at: usize, n: u64) -> usize
 
 // ---- lines
 
-// The room that a line is given: none is longer.
+// The room that each line gets: no line is longer.
 pub const LINE: usize = 80;
 
 pub fn put_line0(out: &mut [u8], at: usize, word: &[u8]) -> usize

@@ -19,12 +19,12 @@ use Rattle.text.proofs.Put.{join}
 use Rattle.lines.proofs.Lines.{answer-most}
 use Rattle.records.proofs.Ways.{whole-size}
 use Rattle.calls.specs.Calls.{callBy}
-use Rattle.trace.specs.Play.{Run, stopped, behind, afterRecord, play, Plays}
+use Rattle.trace.specs.Play.{Run, stopped, prepended, afterRecord, play, Plays}
 
 -- so many records are left of a whole run over bs
 pub record Going (all : Run) (bs before : List ℕ) (left : ℕ) (s : State) (u t : List ℕ) (taken : ℕ) (out : List ℕ) (written : ℕ) : Type 0 where
   pub lines : List ℕ
-  pub rest : all ≡ behind taken lines (play left s u t (drop taken bs))
+  pub rest : all ≡ prepended taken lines (play left s u t (drop taken bs))
   pub put : Puts before 0 lines out written
   pub within : taken ≤ length bs
   pub room : written + 80 * left ≤ length before
@@ -32,10 +32,10 @@ pub record Going (all : Run) (bs before : List ℕ) (left : ℕ) (s : State) (u 
 abbrev with : Run → ℕ → List ℕ → Run
 with p n l = record { state = p .state; used = p .used; stop = p .stop; taken = n; lines = l; bad = p .bad }
 
-pub behind-none : (p : Run) → p ≡ behind 0 [] p
+pub behind-none : (p : Run) → p ≡ prepended 0 [] p
 behind-none p = let e : p .taken ≡ 0 + p .taken = omega arith in ap (λ (n : ℕ). with p n (p .lines)) e
 
-pub behind-two : (a n : ℕ) (l m : List ℕ) (p : Run) → behind a l (behind n m p) ≡ behind (a + n) (l ++ m) p
+pub behind-two : (a n : ℕ) (l m : List ℕ) (p : Run) → prepended a l (prepended n m p) ≡ prepended (a + n) (l ++ m) p
 behind-two a n l m p =
     let e : a + (n + p .taken) ≡ a + n + p .taken = omega arith in
     ap (λ (k : ℕ). with p k (l ++ (m ++ p .lines))) e ∙ ap (with p (a + n + p .taken)) (sym (append-assoc l m (p .lines)))
@@ -61,7 +61,7 @@ module _ {all : Run} {bs before : List ℕ} {left : ℕ} {s : State} {u t : List
   end-of : (bad : Bool) → Going all bs before left s u t taken out written → play left s u t (drop taken bs) ≡ stopped s u t bad
       → Plays all before s u t taken bad out written
   end-of bad g e =
-      let a : all ≡ behind taken (g .lines) (stopped s u t bad) = g .rest ∙ ap (behind taken (g .lines)) e in record {
+      let a : all ≡ prepended taken (g .lines) (stopped s u t bad) = g .rest ∙ ap (prepended taken (g .lines)) e in record {
         state = sym (ap (λ (r : Run). r .state) a);
         used = sym (ap (λ (r : Run). r .used) a);
         stop = sym (ap (λ (r : Run). r .stop) a);
@@ -85,12 +85,12 @@ module _ {all : Run} {bs before : List ℕ} {left : ℕ} {s : State} {u t : List
       → x ≡ machine.step s u t (callBy c) → Puts out written (answerLine (x .answer)) after end → Going all bs before left s u t taken out written
       → Going all bs before (left - 1) (x .state) (x .used) (x .stop) (taken + n) after end
   one-more n c x after end h e q p g =
-      let rest : Turn → Run = λ y. behind n (answerLine (y .answer)) (play (left - 1) (y .state) (y .used) (y .stop) (drop n (drop taken bs))) in record {
+      let rest : Turn → Run = λ y. prepended n (answerLine (y .answer)) (play (left - 1) (y .state) (y .used) (y .stop) (drop n (drop taken bs))) in record {
         lines = g .lines ++ answerLine (x .answer);
         rest =
-            g .rest ∙ ap (behind taken (g .lines)) (first left s u t (drop taken bs) h ∙ ap (afterRecord (play (left - 1)) s u t (drop taken bs)) e ∙ ap rest (sym q))
+            g .rest ∙ ap (prepended taken (g .lines)) (first left s u t (drop taken bs) h ∙ ap (afterRecord (play (left - 1)) s u t (drop taken bs)) e ∙ ap rest (sym q))
             ∙ behind-two taken n (g .lines) (answerLine (x .answer)) (play (left - 1) (x .state) (x .used) (x .stop) (drop n (drop taken bs)))
-            ∙ ap (λ (ds : List ℕ). behind (taken + n) (g .lines ++ answerLine (x .answer)) (play (left - 1) (x .state) (x .used) (x .stop) ds)) (drop-drop n taken bs);
+            ∙ ap (λ (ds : List ℕ). prepended (taken + n) (g .lines ++ answerLine (x .answer)) (play (left - 1) (x .state) (x .used) (x .stop) ds)) (drop-drop n taken bs);
         put = join (g .put) p;
         within = omega (arith, whole-size n c (drop taken bs) e .1, length-drop taken bs, g .within);
         room = omega (arith, g .room, p .place, answer-most (x .answer));

@@ -15,7 +15,7 @@ use Rattle.records.proofs.Ways.{whole-size}
 use Rattle.records.proofs.More.{Not-cut, record-more}
 use Rattle.lines.specs.Lines.{answerLine}
 use Rattle.calls.specs.Calls.{callBy}
-use Rattle.trace.specs.Play.{Run, behind, afterRecord, play}
+use Rattle.trace.specs.Play.{Run, prepended, afterRecord, play}
 use Rattle.trace.proofs.Going.{behind-none, behind-two, first}
 use Rattle.trace.proofs.Whole.{enough}
 
@@ -25,10 +25,10 @@ all s u t bs = play (length bs) s u t bs
 
 -- a run, and then all records of what it left and of the bytes behind
 abbrev pub then : Run → List ℕ → List ℕ → Run
-then p bs cs = behind (p .taken) (p .lines) (all (p .state) (p .used) (p .stop) (drop (p .taken) bs ++ cs))
+then p bs cs = prepended (p .taken) (p .lines) (all (p .state) (p .used) (p .stop) (drop (p .taken) bs ++ cs))
 
 step : (s : State) (u t bs cs : List ℕ) (n : ℕ) (c : _) → recordOf bs ≡ Whole n c
-    → let x = machine.step s u t (callBy c) in all s u t (bs ++ cs) ≡ behind n (answerLine (x .answer)) (all (x .state) (x .used) (x .stop) (drop n bs ++ cs))
+    → let x = machine.step s u t (callBy c) in all s u t (bs ++ cs) ≡ prepended n (answerLine (x .answer)) (all (x .state) (x .used) (x .stop) (drop n bs ++ cs))
 step s u t bs cs n c e =
     let x : Turn = machine.step s u t (callBy c) in
     let z = whole-size n c bs e in
@@ -36,14 +36,14 @@ step s u t bs cs n c e =
     let r : recordOf (bs ++ cs) ≡ Whole n c = record-more bs cs (subst (Not-cut bs cs) (sym e) tt) ∙ e in
     first (length (bs ++ cs)) s u t (bs ++ cs) (omega (arith, l, z .0, z .1))
     ∙ ap (afterRecord (play (length (bs ++ cs) - 1)) s u t (bs ++ cs)) r
-    ∙ ap (behind n (answerLine (x .answer)))
+    ∙ ap (prepended n (answerLine (x .answer)))
     (enough (length (bs ++ cs) - 1) (x .state) (x .used) (x .stop) (drop n (bs ++ cs)) (omega (arith, length-drop n (bs ++ cs), z .0))
     ∙ ap (all (x .state) (x .used) (x .stop)) (drop-append-le n bs cs (z .1)))
 
-joined : (n : ℕ) (line : List ℕ) (q : Run) (bs cs : List ℕ) → behind n line (then q (drop n bs) cs) ≡ then (behind n line q) bs cs
+joined : (n : ℕ) (line : List ℕ) (q : Run) (bs cs : List ℕ) → prepended n line (then q (drop n bs) cs) ≡ then (prepended n line q) bs cs
 joined n line q bs cs =
     behind-two n (q .taken) line (q .lines) (all (q .state) (q .used) (q .stop) (drop (q .taken) (drop n bs) ++ cs))
-    ∙ ap (λ (ds : List ℕ). behind (n + q .taken) (line ++ q .lines) (all (q .state) (q .used) (q .stop) (ds ++ cs))) (drop-drop (q .taken) n bs)
+    ∙ ap (λ (ds : List ℕ). prepended (n + q .taken) (line ++ q .lines) (all (q .state) (q .used) (q .stop) (ds ++ cs))) (drop-drop (q .taken) n bs)
 
 by-record : (k : ℕ) (s : State) (u t bs cs : List ℕ) (r : Record) → recordOf bs ≡ r
     → ((s : State) (u t ds : List ℕ) → all s u t (ds ++ cs) ≡ then (play k s u t ds) ds cs)
@@ -52,7 +52,7 @@ by-record k s u t bs cs Cut e f = behind-none (all s u t (bs ++ cs))
 by-record k s u t bs cs Bad e f = behind-none (all s u t (bs ++ cs))
 by-record k s u t bs cs (Whole n c) e f =
     let x : Turn = machine.step s u t (callBy c) in
-    step s u t bs cs n c e ∙ ap (behind n (answerLine (x .answer))) (f (x .state) (x .used) (x .stop) (drop n bs))
+    step s u t bs cs n c e ∙ ap (prepended n (answerLine (x .answer))) (f (x .state) (x .used) (x .stop) (drop n bs))
     ∙ joined n (answerLine (x .answer)) (play k (x .state) (x .used) (x .stop) (drop n bs)) bs cs
 
 -- whatever bytes come behind, and however many records are played first

@@ -15,7 +15,7 @@ use Rattle.records.specs.Records.{recordOf}
 use Rattle.records.proofs.Ways.{no-head, whole-size}
 use Rattle.lines.specs.Lines.{answerLine}
 use Rattle.calls.specs.Calls.{callBy}
-use Rattle.trace.specs.Play.{behind, afterRecord, play}
+use Rattle.trace.specs.Play.{prepended, afterRecord, play}
 use Rattle.trace.specs.Output.{whole, output}
 
 next : (k : ℕ) (s : State) (u t bs : List ℕ) (r : Record) → recordOf bs ≡ r → length bs ≤ suc k
@@ -25,7 +25,7 @@ next k s u t bs Cut e h f = refl
 next k s u t bs Bad e h f = refl
 next k s u t bs (Whole n c) e h f =
     let x : Turn = machine.step s u t (callBy c) in
-    ap (behind n (answerLine (x .answer))) (f (x .state) (x .used) (x .stop) (drop n bs) (omega (arith, length-drop n bs, whole-size n c bs e .0)))
+    ap (prepended n (answerLine (x .answer))) (f (x .state) (x .used) (x .stop) (drop n bs) (omega (arith, length-drop n bs, whole-size n c bs e .0)))
 
 -- one more than there can be changes nothing
 one-more : (k : ℕ) (s : State) (u t bs : List ℕ) → length bs ≤ k → play (suc k) s u t bs ≡ play k s u t bs
@@ -43,7 +43,7 @@ enough k s u t bs h =
     let e : k ≡ length bs + (k - length bs) = omega arith in
     ap (λ (n : ℕ). play n s u t bs) e ∙ more (k - length bs) (length bs) s u t bs (omega arith)
 
--- the lines of `play` and behind them that of `finish` are what is written for the bytes
+-- the lines of `play` and prepended them that of `finish` are what is written for the bytes
 pub output-is : (k : ℕ) (u t bs : List ℕ) → length bs ≤ k → whole bs (play k zeroState u t bs) ≡ output u t bs
 unfolding output
 output-is k u t bs h = ap (whole bs) (enough k zeroState u t bs h)

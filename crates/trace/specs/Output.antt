@@ -9,6 +9,6 @@ use Rattle.trace.specs.Play.{Run, play}
 abbrev pub whole : List ℕ → Run → List ℕ
 whole bs p = p .lines ++ lastLine (p .state) (p .taken) (length bs - p .taken)
 
--- as many records as there can be: each takes a byte at least
+-- length bs is enough records: each takes a byte at least
 unfoldable pub output : List ℕ → List ℕ → List ℕ → List ℕ
 output u t bs = whole bs (play (length bs) zeroState u t bs)

@@ -14,7 +14,7 @@ use Rattle.calls.specs.Calls.{callBy}
 use Rattle.lines.specs.Lines.{answerLine}
 use Rattle.text.specs.Put.{Puts}
 
--- ---- what so many records come to: the record of the allocator and the maps, the bytes taken, the lines, and whether a bad record stands behind
+-- ---- what so many records leave: the allocator's record and the maps, the bytes taken, the lines, and whether a bad record follows
 pub record Run : Type 0 where
   pub state : State
   pub used : List ℕ
@@ -26,12 +26,12 @@ pub record Run : Type 0 where
 abbrev pub stopped : State → List ℕ → List ℕ → Bool → Run
 stopped s u t bad = record { state = s; used = u; stop = t; taken = 0; lines = []; bad = bad }
 
--- a record of n bytes with its line, and then the others
-abbrev pub behind : ℕ → List ℕ → Run → Run
-behind n line p = record { state = p .state; used = p .used; stop = p .stop; taken = n + p .taken; lines = line ++ p .lines; bad = p .bad }
+-- the run p after a record of n bytes with its line
+abbrev pub prepended : ℕ → List ℕ → Run → Run
+prepended n line p = record { state = p .state; used = p .used; stop = p .stop; taken = n + p .taken; lines = line ++ p .lines; bad = p .bad }
 
 abbrev pub afterCall : (State → List ℕ → List ℕ → Run) → ℕ → Turn → Run
-afterCall rest n t = behind n (answerLine (t .answer)) (rest (t .state) (t .used) (t .stop))
+afterCall rest n t = prepended n (answerLine (t .answer)) (rest (t .state) (t .used) (t .stop))
 
 -- a bad record isn't executed
 abbrev pub afterRecord : (State → List ℕ → List ℕ → List ℕ → Run) → State → List ℕ → List ℕ → List ℕ → Record → Run

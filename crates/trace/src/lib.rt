@@ -1,12 +1,13 @@
-// The trace: records from lent bytes go through the calls, and document 01's lines go into lent bytes. specs/Output.antt says what is written for any bytes at
-// all; proofs/Sessions.antt, that every way of reading a trace in pieces, playing them and finishing writes it.
+// Plays a trace: reads records from lent bytes, makes their calls, and writes document 01's lines into lent bytes. specs/Output.antt says
+// what is written for any bytes at all; proofs/Sessions.antt proves that every way to read a trace in pieces, play them and finish writes
+// it.
 use records::Record;
 use state::State;
 ghost use Prim.Native.Nat.{_/_, _≤_};
 ghost use lib.ListN.{length};
 ghost use Rattle.trace.specs.Play.{Plays, play};
 
-// How far a play came: the state, the bytes taken and written, and whether a bad record stands behind those taken.
+// How far a play came: the state, the bytes taken and written, and whether a bad record follows those taken.
 pub struct Played {
     pub state: State,
     pub taken: usize,
@@ -14,7 +15,7 @@ pub struct Played {
     pub bad: bool,
 }
 
-// Takes whole good records from the front of `bytes` and writes their lines to the front of `out`, one after the other, as many as there is room for.
+// Plays the whole good records at the front of `bytes`, as many as `out` has room for, and writes their lines to the front of `out`.
 pub fn play(s: State, used: &mut [u32], stop: &mut [u32], bytes: &[u8], out: &mut [u8]) -> Played
     ensures { λ r. ⌜ Plays (play (length (now (out .entry)) / 80) s (now (used .entry)) (now (stop .entry)) (now (bytes .entry))) (now (out .entry))
         (r .state) (now (used .exit)) (now (stop .exit)) (r .taken) (r .bad) (now (out .exit)) (r .written) ⌝ }

@@ -17,9 +17,9 @@ use Rattle.state.specs.declared.State.{State}
 use Rattle.state.specs.declared.Found.{Found}
 use Rattle.state.specs.declared.Found.the-variants.{At as slotAt, Nothing}
 use Rattle.state.specs.declared.Place.{Place}
-use Rattle.state.specs.declared.Place.the-variants.{Address, Nowhere as noPlace}
+use Rattle.state.specs.declared.Place.the-variants.{Base, Nowhere as noPlace}
 use Rattle.state.specs.declared.Held.{Held}
-use Rattle.state.specs.declared.Held.the-variants.{NoSpan, NoStop, Units}
+use Rattle.state.specs.declared.Held.the-variants.{NoSpan, NoStop, Range}
 use Rattle.state.specs.declared.Hit.{Hit}
 use Rattle.state.specs.declared.Hit.the-variants.{At, Nowhere}
 use Rattle.state.specs.declared.Searched.{Searched}
@@ -35,15 +35,15 @@ use Rattle.shape_facts.proofs.Room.{slot-is, room-left}
 use Rattle.shape_facts.proofs.Search.{Left, Place as Placed}
 use Rattle.shape_facts.proofs.Leaves.{released-stays}
 use Rattle.machine.specs.Turn.{turn, refuse, span, withLive, unitOf}
-use Rattle.machine.specs.Alloc.{searchPool, allocMade, allocPlaced, allocSearched, allocPool, allocRounded, allocTurn}
+use Rattle.machine.specs.Alloc.{poolFor, unitsFor, searchFor, searchPool, allocMade, allocPlaced, allocSearched, allocPool, allocRounded, allocTurn}
 use Rattle.machine.specs.Span.{heldIn, queryHeld, queryFound, queryTurn}
 use Rattle.machine.specs.Release.{lessUsed, settle, releaseUnits, releaseHeld, releaseFound, releaseTurn}
 use Rattle.machine.specs.Shrink.{shrinkTail, shrinkUnits, shrinkHeld, shrinkFound, shrinkTurn}
 use Rattle.machine.specs.Reset.{emptyTable, clearBlocks, kept, resetTurn}
 use Rattle.machine.specs.Machine.{Call, create, alloc, release, shrink, query, softReset, hardReset, step}
+use Rattle.machine.proofs.Cases.{Seeks}
 use Rattle.shape_kept.specs.Sized.{Sized}
 use Rattle.shape_kept.proofs.After.{less-block}
-use Rattle.shape_kept.proofs.Cases.{Seeks, poolFor, unitsFor, searchFor}
 use Rattle.shape_kept.proofs.Request.{seeks-some, seeks-left}
 use Rattle.shape_kept.proofs.Sized.{sized-search}
 use Rattle.shape_kept.proofs.Words.{length-fill-slot}
@@ -70,7 +70,7 @@ module _ (s : State) (u t v v′ : List ℕ) (z : Sized s) (room : s .slots * s 
     shown-behind : (j : ℕ) (h : Held) → queryHeld s (u ++ v) (t ++ v′) a j h ≡ behind (queryHeld s u t a j h) v v′
     shown-behind j NoSpan = refl
     shown-behind j NoStop = refl
-    shown-behind j (Units i e) = refl
+    shown-behind j (Range i e) = refl
 
     queried-behind : Good → (f : Found) → lookup s a ≡ f → queryFound s (u ++ v) (t ++ v′) a f ≡ behind (queryFound s u t a f) v v′
     queried-behind good Nothing e = refl
@@ -103,7 +103,7 @@ module _ (s : State) (u t v v′ : List ℕ) (z : Sized s) (room : s .slots * s 
     released-behind : Good → (j : ℕ) → lookup s a ≡ slotAt j → (h : Held) → releaseHeld s (u ++ v) (t ++ v′) a j h ≡ behind (releaseHeld s u t a j h) v v′
     released-behind good j f NoSpan = refl
     released-behind good j f NoStop = refl
-    released-behind good j f (Units i e) =
+    released-behind good j f (Range i e) =
         pick-behind v v′ (ltb (blockAt s j .used) (e - i) || eqb (s .live) 0) _ _ (refuse Damaged s u t) (releaseUnits s u t a j i e) refl (freed-behind good j f i e)
 
     given-back-behind : Good → (f : Found) → lookup s a ≡ f → releaseFound s (u ++ v) (t ++ v′) a f ≡ behind (releaseFound s u t a f) v v′
@@ -128,7 +128,7 @@ module _ (s : State) (u t v v′ : List ℕ) (z : Sized s) (room : s .slots * s 
       shrunk-behind : Good → (j : ℕ) → lookup s a ≡ slotAt j → (h : Held) → shrinkHeld s (u ++ v) (t ++ v′) a size j h ≡ behind (shrinkHeld s u t a size j h) v v′
       shrunk-behind good j f NoSpan = refl
       shrunk-behind good j f NoStop = refl
-      shrunk-behind good j f (Units i e) =
+      shrunk-behind good j f (Range i e) =
           let n = unitsOf size (unitOf s (blockAt s j)) in
           pick-behind v v′ (ltb (blockAt s j .used) (e - i)) _ _ (refuse Damaged s u t) (shrinkUnits s u t a j i e n) refl (units-behind good j f i e n)
 
@@ -171,12 +171,12 @@ module _ (s : State) (u t v v′ : List ℕ) (z : Sized s) (room : s .slots * s 
     slot-lies slot h = slot-room r (length u) (length t) (left .shaped) slot h
 
     placed-behind : (b : ℕ) (x : Place) (f : Found) → lowestSlot r ≡ f → allocPlaced r (u ++ v) (t ++ v′) p n b x f ≡ behind (allocPlaced r u t p n b x f) v v′
-    placed-behind b (Address at) (slotAt slot) e =
+    placed-behind b (Base at) (slotAt slot) e =
         let c = slot-is r slot (sym e) in
         let few = room-left r (length u) (length t) (left .shaped) slot (c .0) (c .1) in
         pick-behind v v′ (leb (unitsOf (unitsOf b (poolAt r p .granularity)) 32) (r .w)) _ _ (allocMade r u t p n b at slot) (refuse NoMapping r u t)
         (make-behind u t v v′ r p n b at slot (sized-search s z u p n) (omega (arith, few, left .shaped .head .slots-high)) (slot-lies slot (c .0))) refl
-    placed-behind b (Address at) Nothing e = refl
+    placed-behind b (Base at) Nothing e = refl
     placed-behind b noPlace f e = refl
 
     searched-behind : (h : Hit) → searchFor s u bytes .hit ≡ h → allocSearched r (u ++ v) (t ++ v′) p n bytes h ≡ behind (allocSearched r u t p n bytes h) v v′

@@ -6,7 +6,7 @@ use lib.ListN.{take, drop}
 use Rattle.machine.specs.Turn.{Turn, turn}
 use Rattle.machine.specs.Machine.{Call, create, alloc, release, shrink, query, softReset, hardReset}
 
--- what a turn leaves, with more words behind its maps
+-- what a turn leaves, with more words after its maps
 abbrev pub behind : Turn → List ℕ → List ℕ → Turn
 behind x v w = turn (x .answer) (x .state) (x .used ++ v) (x .stop ++ w)
 

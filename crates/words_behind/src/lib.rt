@@ -1,1 +1,1 @@
-// No code: words from slots times W on are neither read nor written (specs/Behind.antt), proved of the machine.
+// No code: proves that the machine neither reads nor writes words from slots times W on (specs/Behind.antt).

@@ -1,3 +1,5 @@
+-- Each branch is the branch of `allocTurn` with the same test: the shape, then the rounded size. A size that is not refused is above 0, at
+-- most MAX_SIZE and a multiple of the granularity (`rounded-to-granularity`), as `alloc_rounded` requires. Assumes nothing.
 use mathlib.Core.Bool.{true, false}
 use mathlib.Core.Path.{_≡_, sym, ap, _∙_}
 use native.Mathlib.Omega.{arith}
@@ -46,7 +48,7 @@ alloc-rounded-requires c κs =
     let a = c .before .before .before .before .before .before .before .before .before .before .args in
     let f = shaped (c .before .before .before .before .before .before) in
     let q = rounded-to-granularity (a .size) (a .s .granularity) (c .before .before .before .rounded .given .0 .0) (g-good (a .s .granularity) (f .head .g-listed)) (c .before .before .before .before .before .before .before .before .before .before .good .1 .1 .1 .0 .1) (sym (c .before .before .before .before .before .round-size .ensures) ∙ c .before .before .before .rounded .given .1) in
-    record { shaped = f; some = q .some; most = q .small; even = q .whole }
+    record { shaped = f; some = q .some; most = q .small; whole = q .whole }
 
 returns-2 : tie.Need-returns-2
 returns-2 c = c .before .before .before .before .alloc-rounded .ensures ∙ sized (c .before .before .before .before .before .before .before .before .before .before) _ (c .before .before .before .before .before .before .before .before .rounded .given .1)

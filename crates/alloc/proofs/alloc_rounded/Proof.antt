@@ -1,3 +1,5 @@
+-- Pool, units, search and block size are those of `allocRounded`, by the callees' contracts. The search keeps the shape (`search-left`), so
+-- a place that it found may be marked (`hit-ready`), or else a new block may be made (`new-ready`). Assumes nothing.
 use Prim.Native.Nat.{ℕ, _-_, _*_, _^_, _≤_, _<_}
 use mathlib.Core.Path.{_≡_, sym, ap, ap₂, subst, _∙_}
 use native.Mathlib.Omega.{arith}
@@ -48,11 +50,11 @@ left c =
 size-to-pool-id-requires : tie.Need-size-to-pool-id-requires
 size-to-pool-id-requires c κs = let m = c .before .before .pre in (omega (arith, m .most), g-good (c .before .before .args .t1 .granularity) (m .shaped .head .g-listed), m .shaped .head .pools-listed)
 
-mul-pool : tie.Need-mul-pool
-mul-pool c = let a = c .before .before .before .args in omega (arith, c .size-to-pool-id .ensures, pool-in (a .t1) (length (a .used .now)) (length (a .stop .now)) (a .bytes) (c .before .before .before .pre))
+mul-q : tie.Need-mul-q
+mul-q c = let a = c .before .before .before .args in omega (arith, c .size-to-pool-id .ensures, pool-in (a .t1) (length (a .used .now)) (length (a .stop .now)) (a .bytes) (c .before .before .before .pre))
 
-element-copy-out-pool : tie.Need-element-copy-out-pool
-element-copy-out-pool c = let a = c .before .before .before .args in omega (arith, c .size-to-pool-id .ensures, pool-in (a .t1) (length (a .used .now)) (length (a .stop .now)) (a .bytes) (c .before .before .before .pre))
+element-copy-out-q : tie.Need-element-copy-out-q
+element-copy-out-q c = let a = c .before .before .before .args in omega (arith, c .size-to-pool-id .ensures, pool-in (a .t1) (length (a .used .now)) (length (a .stop .now)) (a .bytes) (c .before .before .before .pre))
 
 area-size-from-byte-size-requires : tie.Need-area-size-from-byte-size-requires
 area-size-from-byte-size-requires c κs =
@@ -174,8 +176,8 @@ alloc-rounded-spec =
     tie.close
     (tie.spec
     size-to-pool-id-requires
-    mul-pool
-    element-copy-out-pool
+    mul-q
+    element-copy-out-q
     area-size-from-byte-size-requires
     search-pool-requires
     enum-known-hit

@@ -1,3 +1,5 @@
+-- `Markable` has what each callee requires. The callees' results put together are `allocMarked`: the span, the marked block and maps, the
+-- counts. Assumes nothing.
 use Prim.Native.Nat.{_+_}
 use mathlib.Core.Path.{ap, _∙_}
 use Rattle.block.specs.declared.Block.{Block}

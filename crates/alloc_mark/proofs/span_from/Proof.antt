@@ -1,3 +1,5 @@
+-- The units before `from` and the span's own lie in the block, which ends below 2^64, so no product or sum overflows. The size of the units
+-- before `from` is the span's offset from the base. Assumes nothing.
 use Prim.Native.Nat.{ℕ, _+_, _*_, _^_, _≤_, _<_}
 use mathlib.Core.Path.{_≡_, ap, ap₂, _∙_}
 use native.Mathlib.Nat.{mul-le-mul-right}

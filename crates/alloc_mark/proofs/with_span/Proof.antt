@@ -1,3 +1,5 @@
+-- The block read is `blockAt s j`, so its pool is below 3 and is the `poolAt` of the contract. With that the record built is the
+-- contract's, field by field. Assumes nothing.
 use mathlib.Core.Path.{_≡_, ap, _∙_}
 use native.Mathlib.Omega.{arith}
 use Rattle.block.specs.declared.Block.{Block}

@@ -1,3 +1,5 @@
+-- Clearing keeps the lengths of the maps, and the block that entered is the newest, at age `count`: so a span may be marked in it (`made`).
+-- The record and the maps are then the arguments of the contract's `allocMarked`. Assumes nothing.
 use Prim.Native.Nat.{ℕ}
 use mathlib.Core.List.{List}
 use mathlib.Core.Path.{sym, ap, ap₂, subst, _∙_}

@@ -1,3 +1,5 @@
+-- Place and slot are the definition's, so each branch is a branch of `allocPlaced` (`by-place`). With a place, a slot and room for the
+-- words, a good shape lets the new block enter (`makeable`). Assumes nothing.
 use Prim.Native.Nat.{ℕ}
 use mathlib.Core.Bool.{Bool, true, false}
 use mathlib.Core.List.{List}
@@ -17,7 +19,7 @@ use Rattle.state.specs.declared.Refusal.the-variants.{NoMapping}
 use Rattle.state.specs.declared.Found.{Found}
 use Rattle.state.specs.declared.Found.the-variants.{At, Nothing}
 use Rattle.state.specs.declared.Place.{Place}
-use Rattle.state.specs.declared.Place.the-variants.{Address, Nowhere}
+use Rattle.state.specs.declared.Place.the-variants.{Base, Nowhere}
 use Rattle.state.specs.Table.{poolAt}
 use Rattle.state.specs.Find.{lowestSlot, lowestPlace}
 use Rattle.state.specs.Change.{inserted}
@@ -55,7 +57,7 @@ returns-2 : tie.Need-returns-2
 returns-2 c =
     let a = c .before .before .before .before .before .before .before .before .before .before .args in
     ap (λ (o : Outcome). turn (o .answer) (o .state) (a .used .now) (a .stop .now)) (c .refused2 .ensures)
-    ∙ by-place (a .s) (a .used .now) (a .stop .now) (a .p) (a .n) (a .bytes) (Address (c .before .before .before .before .before .place .given .0 .0)) Nothing (sym (c .before .before .before .before .before .place .given .1) ∙ c .before .before .before .before .before .before .before .lowest-place .ensures)
+    ∙ by-place (a .s) (a .used .now) (a .stop .now) (a .p) (a .n) (a .bytes) (Base (c .before .before .before .before .before .place .given .0 .0)) Nothing (sym (c .before .before .before .before .before .place .given .1) ∙ c .before .before .before .before .before .before .before .lowest-place .ensures)
     (sym (c .before .enum-told2 .given .1) ∙ c .before .before .before .lowest-free-slot .ensures)
 
 area-size-from-byte-size-requires : tie.Need-area-size-from-byte-size-requires
@@ -76,7 +78,7 @@ returns-3 c =
     let e : leb (unitsOf (unitsOf (a .bytes) unit) 32) (a .s .w) ≡ false = lt-leb (unitsOf (unitsOf (a .bytes) unit) 32) (a .s .w) (omega (arith, words, c .before .if1 .taken)) in
     ap (λ (o : Outcome). turn (o .answer) (o .state) (a .used .now) (a .stop .now)) (c .refused3 .ensures)
     ∙ sym (ap (λ (b : Bool). pick b (allocMade (a .s) (a .used .now) (a .stop .now) (a .p) (a .n) (a .bytes) at k) (refuse NoMapping (a .s) (a .used .now) (a .stop .now))) e)
-    ∙ by-place (a .s) (a .used .now) (a .stop .now) (a .p) (a .n) (a .bytes) (Address at) (At k) (sym (c .before .before .before .before .before .before .before .before .before .before .before .place .given .1) ∙ c .before .before .before .before .before .before .before .before .before .before .before .before .before .lowest-place .ensures) (sym (c .before .before .before .before .before .before .before .slot .given .1) ∙ c .before .before .before .before .before .before .before .before .before .lowest-free-slot .ensures)
+    ∙ by-place (a .s) (a .used .now) (a .stop .now) (a .p) (a .n) (a .bytes) (Base at) (At k) (sym (c .before .before .before .before .before .before .before .before .before .before .before .place .given .1) ∙ c .before .before .before .before .before .before .before .before .before .before .before .before .before .lowest-place .ensures) (sym (c .before .before .before .before .before .before .before .slot .given .1) ∙ c .before .before .before .before .before .before .before .before .before .lowest-free-slot .ensures)
 
 new-block-requires : tie.Need-new-block-requires
 new-block-requires c κs =
@@ -107,7 +109,7 @@ returns-4 c =
     c .before .before .before .before .make-span .ensures
     ∙ ap (λ (x : Block). allocMarked (inserted (a .s) x) (clearSlot (a .s .w) (x .slot) (a .used .now)) (clearSlot (a .s .w) (x .slot) (a .stop .now)) (a .s .count) 0 (a .n)) b
     ∙ sym (ap (λ (b : Bool). pick b (allocMade (a .s) (a .used .now) (a .stop .now) (a .p) (a .n) (a .bytes) at k) (refuse NoMapping (a .s) (a .used .now) (a .stop .now))) e)
-    ∙ by-place (a .s) (a .used .now) (a .stop .now) (a .p) (a .n) (a .bytes) (Address at) (At k) (sym (c .before .before .before .before .before .before .before .before .before .before .before .before .before .before .before .before .before .before .place .given .1) ∙ c .before .before .before .before .before .before .before .before .before .before .before .before .before .before .before .before .before .before .before .before .lowest-place .ensures) (sym (c .before .before .before .before .before .before .before .before .before .before .before .before .before .before .slot .given .1) ∙ c .before .before .before .before .before .before .before .before .before .before .before .before .before .before .before .before .lowest-free-slot .ensures)
+    ∙ by-place (a .s) (a .used .now) (a .stop .now) (a .p) (a .n) (a .bytes) (Base at) (At k) (sym (c .before .before .before .before .before .before .before .before .before .before .before .before .before .before .before .before .before .before .place .given .1) ∙ c .before .before .before .before .before .before .before .before .before .before .before .before .before .before .before .before .before .before .before .before .lowest-place .ensures) (sym (c .before .before .before .before .before .before .before .before .before .before .before .before .before .before .slot .given .1) ∙ c .before .before .before .before .before .before .before .before .before .before .before .before .before .before .before .before .lowest-free-slot .ensures)
 
 enum-known-place : tie.Need-enum-known-place
 enum-known-place c = search needs

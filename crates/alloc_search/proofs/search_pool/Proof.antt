@@ -1,3 +1,5 @@
+-- The loop keeps: a search of all blocks of the given record comes to what a search of the blocks from `i` on comes to in the present one,
+-- and those blocks are unchanged. So a hit is the definition's hit, and at the end no block is left to search. Assumes nothing.
 use native.Mathlib.Nat.{sub-zero}
 use Prim.Native.Nat.{ℕ, suc, _+_, _-_, _≤_, _<_}
 use mathlib.Core.Path.{_≡_, refl, sym, ap, subst, _∙_}

@@ -1,4 +1,4 @@
--- `bits::get_bit` meets its contract. Assumes nothing.
+-- `bit_vector_get_bit`: the digit shifted out of its word is the map's bit. Assumes nothing.
 use borrow.Author.Needs.{needs}
 use lib.ListN.{getD}
 use Prim.Native.Nat.{_/_, _%_}

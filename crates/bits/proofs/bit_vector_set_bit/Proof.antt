@@ -1,3 +1,5 @@
+-- `|` with the bit, and `&` with its complement, put the digit into its word and keep the others (`or-put`, `and-put`). Only that word is
+-- written, so only that bit changes. Assumes nothing.
 use borrow.Author.Needs.{needs}
 use Prim.Native.Nat.{ℕ, _*_, _/_, _%_, _<_}
 use mathlib.Core.List.{List}

@@ -1,3 +1,5 @@
+-- Each kind of call is one case of `step`, and the contract of its function is that case. A query changes nothing (`query-still`), so the
+-- state and the maps are those given. Assumes nothing.
 use mathlib.Core.Path.{sym, ap, _∙_}
 use denote.Ref.{now}
 use Rattle.machine.specs.Turn.{turn}

@@ -1,3 +1,5 @@
+-- `create` leaves the definition's turn. If its answer is a refusal, `step` goes on with the state before it (`refused-keeps`), otherwise
+-- with the new one (`granted-goes`), as the code does. Assumes nothing.
 use mathlib.Core.Path.{ap, _∙_}
 use Rattle.machine.specs.Turn.{Turn, turn}
 use Rattle.machine.specs.Machine.{orBefore}

@@ -1,3 +1,4 @@
+-- The loop keeps: the first `i` words are cleared, and no other word changed. At its end `i` is `n`. Assumes nothing.
 use Prim.Native.Nat.{ℕ, _-_, _≤_}
 use mathlib.Core.List.{List}
 use mathlib.Core.Path.{_≡_, refl, ap, _∙_}

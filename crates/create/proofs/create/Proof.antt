@@ -1,3 +1,5 @@
+-- If the numbers are not grantable, the rule refuses too (`refused-is`). Otherwise W is above 0 and the slots fit both slices
+-- (`slots-room`), so the words cleared are the rule's; with the fresh record they are its granted turn (`granted-is`). Assumes nothing.
 use Prim.Native.Nat.{ℕ, _*_, _≤_}
 use mathlib.Core.Bool.{true}
 use mathlib.Core.Path.{_≡_, refl, sym, ap, ap₂, _∙_}

@@ -1,3 +1,5 @@
+-- Each early return fails one test of the definition's list (`every-fails`). If the first three pass, the arena's test decides (`passes`).
+-- Assumes nothing.
 use mathlib.Core.Bool.{Bool, true, false}
 use mathlib.Core.Path.{_≡_, refl, sym, _∙_}
 use native.Mathlib.Omega.{arith}
@@ -6,7 +8,7 @@ use Prim.Native.Nat.{ℕ}
 use mathlib.Core.List.{List, [], _∷_}
 use lib.ListN.{getD}
 use lib.Dec.{leb}
-use Rattle.numbers.proofs.Split.{not-both}
+use Rattle.numbers.proofs.Bools.{not-both}
 use Rattle.state.proofs.Tests.{every-fails}
 use Rattle.state.specs.Shape.{every, arenaOk}
 use Rattle.machine.specs.Create.{slotsOf}

@@ -1,3 +1,5 @@
+-- It promises nothing but to stay in range. The loop keeps: `i` is from `from` up to `to`, and the buffer's length stays, so both indexes
+-- lie in it. Assumes nothing.
 use Prim.Native.Nat.{_-_, _≤_}
 use mathlib.Core.Path.{_≡_, refl}
 use native.Mathlib.Omega.{arith}

@@ -1,3 +1,5 @@
+-- `play` takes at most the bytes lent to it, which are those that wait, and writes at most the length of `out`. `go_on`, `last` and
+-- `read_on` keep both bounds. Assumes nothing.
 use mathlib.Core.Path.{sym}
 use native.Mathlib.Omega.{arith}
 use lib.Seq.{length-take-le}

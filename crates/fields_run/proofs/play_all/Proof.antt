@@ -1,3 +1,5 @@
+-- It promises nothing, but `turn` requires that the bytes that wait fit the buffer. The loop keeps that, which `turn` promises again, and
+-- the lengths of the slices; `turns` falls, so it ends. Assumes nothing.
 use Prim.Native.Nat.{_≤_}
 use mathlib.Core.Path.{_≡_}
 use lib.ListN.{length}

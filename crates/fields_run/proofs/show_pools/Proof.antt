@@ -1,3 +1,4 @@
+-- It promises nothing but to stay in range. The invariant says nothing: the test `k < 3` bounds the index in each turn. Assumes nothing.
 use Prim.Native.Nat.{_-_}
 use borrow.Author.Needs.{needs}
 use Rattle.fields_run.proofs.show_pools.Statement.{statement}

@@ -1,3 +1,5 @@
+-- It promises nothing but to stay in range. `at_most` answers at most the image's length, so the part lent lies in the image. Assumes
+-- nothing.
 use mathlib.Core.Path.{sym}
 use lib.Seq.{length-take-le}
 use borrow.Author.Needs.{needs}

@@ -1,3 +1,4 @@
+-- It promises nothing but to stay in range. `at_most` answers at most the number of bytes, so the part lent lies in them. Assumes nothing.
 use mathlib.Core.Path.{sym}
 use lib.Seq.{length-take-le}
 use borrow.Author.Needs.{needs}

@@ -1,3 +1,4 @@
+-- It promises nothing. The loop keeps the lengths of the three slices; `k` rises up to its bound, so the loop ends. Assumes nothing.
 use Prim.Native.Nat.{_-_}
 use mathlib.Core.Path.{_≡_}
 use lib.ListN.{length}

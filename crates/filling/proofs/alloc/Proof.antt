@@ -1,3 +1,5 @@
+-- An image of another length is refused as by `lentStep` (`not-lent`). Otherwise the turn is the call's own, and a new block lies in the
+-- arena (`asks`), so it may be filled; that image is `imageAfter` (`lent-fills`). Assumes nothing.
 use Prim.Native.Nat.{_<_}
 use mathlib.Core.Path.{sym, subst}
 use native.Mathlib.Omega.{arith}

@@ -1,3 +1,5 @@
+-- An image of another length is refused as by `lentStep` (`not-lent`). Otherwise the turn is the call's own, and a released span lies in
+-- the arena (`asks`), so it may be filled; that image is `imageAfter` (`lent-fills`). Assumes nothing.
 use native.Mathlib.Omega.{arith}
 use denote.Ref.{now}
 use lib.ListN.{length}

@@ -1,3 +1,5 @@
+-- An image of another length is refused as by `lentStep` (`not-lent`). Otherwise the turn is the call's own, and what it freed or cut off
+-- lies in the arena (`shrink-asks`); the two fills, one after the other, are `imageAfter` (`both-fills`). Assumes nothing.
 use mathlib.Core.Path.{ap, _∙_}
 use native.Mathlib.Omega.{arith}
 use denote.Ref.{now}

@@ -1,3 +1,5 @@
+-- An image of another length is refused as by `lentStep` (`not-lent`). Otherwise the turn is the call's own, and the kept blocks are at
+-- most 64 (`kept-few`) and lie in the arena (`asks`), so they may be filled; that image is `imageAfter`. Assumes nothing.
 use Prim.Native.Nat.{_≤_}
 use mathlib.Core.Path.{_≡_, sym, subst}
 use native.Mathlib.Omega.{arith}

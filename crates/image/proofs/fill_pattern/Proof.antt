@@ -1,3 +1,4 @@
+-- The loop keeps: the `i` bytes from `at` on are the pattern's, and no other byte changed. At its end `i` is `n`. Assumes nothing.
 use Prim.Native.Nat.{ℕ, _+_, _-_, _≤_}
 use mathlib.Core.List.{List}
 use mathlib.Core.Path.{_≡_, sym, ap, _∙_}

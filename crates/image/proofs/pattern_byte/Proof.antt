@@ -1,3 +1,4 @@
+-- Each branch knows `i % 4`, and byte k of the pattern is pattern / 256^k % 256 (`byte-at`). Assumes nothing.
 use Prim.Native.Nat.{ℕ, _%_}
 use mathlib.Core.Path.{sym, ap, _∙_}
 use native.Mathlib.Nat.{div-one}

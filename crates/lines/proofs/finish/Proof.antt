@@ -1,3 +1,5 @@
+-- The two tests are the definition's. The line fits: neither is longer than the 80 bytes of room (`end-most`, `bad-most`), so the index
+-- returned lies within `out`. Assumes nothing.
 use mathlib.Core.Path.{refl}
 use borrow.Author.Tests.{lt-ltb, le-ltb, eq-eqb, ne-eqb}
 use lib.ListN.{length}

@@ -1,3 +1,4 @@
+-- Each branch knows the answer (`known`), and its callee writes the word and the numbers of that answer's line. Assumes nothing.
 use Prim.Native.Nat.{ℕ}
 use mathlib.Core.List.{List, [], _∷_}
 use mathlib.Core.Path.{_≡_, sym, subst}

@@ -1,4 +1,5 @@
--- `maps_run::walk` meets its contract. The invariant says nothing: what `step` requires is tested in each turn. The measure is the fuel. Assumes nothing.
+-- It promises nothing. The invariant says nothing: what `step` requires is tested in each turn. `fuel` falls, so the loop ends. Assumes
+-- nothing.
 use borrow.Author.Needs.{needs}
 use Rattle.maps_run.proofs.walk.Statement.{statement}
 use Rattle.maps_run.proofs.walk.Tie as tie

@@ -1,4 +1,4 @@
--- `maps_run::words` meets its contract. The invariant says nothing: the index is tested in each turn. Assumes nothing.
+-- It promises nothing but to stay in range. The invariant says nothing: the loop's test bounds the index in each turn. Assumes nothing.
 use Prim.Native.Nat.{_-_}
 use lib.ListN.{length}
 use borrow.Author.Needs.{needs}

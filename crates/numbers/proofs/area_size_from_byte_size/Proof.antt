@@ -3,7 +3,7 @@ use mathlib.Core.Path.{sym}
 use native.Mathlib.Nat.{div-lt-iff-lt-mul}
 use native.Mathlib.Omega.{arith}
 use borrow.Author.Needs.{needs}
-use Rattle.numbers.proofs.Units.{units-even, units-odd, units-le}
+use Rattle.numbers.proofs.Units.{units-whole, units-odd, units-le}
 use Rattle.numbers.proofs.area_size_from_byte_size.Statement.{statement}
 use Rattle.numbers.proofs.area_size_from_byte_size.Tie as tie
 
@@ -30,7 +30,7 @@ cast-result-2 c =
     omega (arith, units-le (a .size) (a .unit) (2 ^ 32 - 1) h .1 (c .before .pre .1), units-odd (a .size) (a .unit) h (c .if1 .left))
 
 returns : tie.Need-returns
-returns c = let a = c .before .args in sym (units-even (a .size) (a .unit) (c .before .pre .0) (c .if1 .taken))
+returns c = let a = c .before .args in sym (units-whole (a .size) (a .unit) (c .before .pre .0) (c .if1 .taken))
 
 returns-2 : tie.Need-returns-2
 returns-2 c = let a = c .before .args in sym (units-odd (a .size) (a .unit) (c .before .pre .0) (c .if1 .left))

@@ -1,4 +1,4 @@
--- `numbers_run::bytes_of` meets its contract: fewer than 2 ^ 32 units, of at most 1,024 bytes each, have fewer than 2 ^ 64 bytes. Assumes nothing.
+-- Fewer than 2 ^ 32 units of at most 1,024 bytes each have fewer than 2 ^ 64 bytes, so the product fits. Assumes nothing.
 use Prim.Native.Nat.{_^_}
 use native.Mathlib.Nat.{mul-le-mul}
 use native.Mathlib.Omega.{arith}

@@ -1,4 +1,4 @@
--- `numbers_run::every_pool` meets its contract. The invariant says nothing: the size is tested in each turn. Assumes nothing.
+-- It promises nothing. The invariant says nothing: the size is tested in each turn. Assumes nothing.
 use Prim.Native.Nat.{_-_}
 use borrow.Author.Needs.{needs}
 use Rattle.numbers_run.proofs.every_pool.Statement.{statement}

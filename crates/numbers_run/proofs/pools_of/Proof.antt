@@ -1,4 +1,4 @@
--- `numbers_run::pools_of` meets its contract: 64 is a granularity, and there are three pools, or one. Assumes nothing.
+-- 64 is a granularity, and the pools are three or one, as `size_to_pool_id` requires. Assumes nothing.
 use mathlib.Core.Path.{refl}
 use mathlib.Core.Logic.{inl, inr}
 use native.Mathlib.Omega.{arith}

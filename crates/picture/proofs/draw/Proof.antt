@@ -1,3 +1,4 @@
+-- It promises nothing but to stay in range. The invariant says nothing: the test `i < 64` bounds the index in each turn. Assumes nothing.
 use Prim.Native.Nat.{_-_}
 use borrow.Author.Needs.{needs}
 use Rattle.picture.proofs.draw.Statement.{statement}

@@ -1,3 +1,5 @@
+-- It promises nothing but that no sum overflows. The loop keeps: `end` fits 32 bits, so `i + 64` fits 64; `end - i` falls, so the loop
+-- ends. Assumes nothing.
 use Prim.Native.Nat.{_-_, _≤_}
 use borrow.Author.Needs.{needs}
 use Rattle.picture.proofs.draw_units.Statement.{statement}

@@ -1,3 +1,4 @@
+-- It promises nothing but to stay in range. The invariant says nothing: the loop's test bounds the index in each turn. Assumes nothing.
 use Prim.Native.Nat.{_-_}
 use lib.ListN.{length}
 use borrow.Author.Needs.{needs}

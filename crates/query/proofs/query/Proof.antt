@@ -1,5 +1,7 @@
+-- Each branch is the branch of `queryTurn` with the same test: the shape, the lookup, and what `held_in` found. A good shape gives what the
+-- callees require; the block found holds the address (`found-in`), and the units found lie in it (`held-in-range`). Assumes nothing.
 use Rattle.state.specs.declared.Answer.the-variants.{Shown}
-use Rattle.state.specs.declared.Held.the-variants.{NoSpan, NoStop, Units}
+use Rattle.state.specs.declared.Held.the-variants.{NoSpan, NoStop, Range}
 use Rattle.state.specs.declared.Span.{Span}
 use Rattle.machine.specs.Turn.{Turn, unitOf}
 use Prim.Native.Nat.{_-_, _≤_, _<_}
@@ -117,7 +119,7 @@ returns-4 c = shown (c .before .before) NoStop (c .enum-told3 .given .1)
 returns-5 : tie.Need-returns-5
 returns-5 c =
     let g = c .before .before .held .given .0 in
-    ap (λ (x : Span). Shown x) (c .span-at .ensures) ∙ shown (c .before .before .before .before) (Units (g .0) (g .1 .0)) (c .before .before .held .given .1)
+    ap (λ (x : Span). Shown x) (c .span-at .ensures) ∙ shown (c .before .before .before .before) (Range (g .0) (g .1 .0)) (c .before .before .held .given .1)
 
 pub query-spec : {M : Type 1} → statement M
 query-spec =

@@ -1,3 +1,5 @@
+-- It promises nothing, but `turn` requires that the bytes that wait fit the buffer. The loop keeps that, which `turn` promises again;
+-- `turn` also promises that `written` is within `out`, so the part written out lies in it. Assumes nothing.
 use Prim.Native.Nat.{_≤_}
 use mathlib.Core.Path.{_≡_, sym}
 use borrow.Author.Needs.{needs}

@@ -1,3 +1,5 @@
+-- The payload of the kind fits the bytes (`holds`), so each number read lies in them. Each branch knows the kind and reads the call that
+-- `callOf` says; the last one takes every other kind, as `callOf` does (`last`). Assumes nothing.
 use mathlib.Core.Path.{sym, ap, ap₂, _∙_}
 use native.Mathlib.Omega.{arith}
 use lib.ListN.{length}

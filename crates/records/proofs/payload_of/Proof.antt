@@ -1,3 +1,5 @@
+-- Each branch but the last knows the kind, so `payloadOf` computes. In the last one all seven kinds are excluded (`unknown`). Assumes
+-- nothing.
 use mathlib.Core.Path.{sym, ap}
 use Rattle.records.specs.Records.{payloadOf}
 use Rattle.records.proofs.Ways.{unknown}

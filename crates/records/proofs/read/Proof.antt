@@ -1,3 +1,5 @@
+-- Each return is a case of `recordOf`: no head, an unknown kind, a wrong length, a cut payload, a whole record. A whole record's payload
+-- fits the bytes, as `call_of` requires. Assumes nothing.
 use mathlib.Core.Path.{_≡_, sym, subst, _∙_}
 use lib.ListN.{length}
 use denote.Ref.{now}

@@ -1,3 +1,5 @@
+-- The block's new record keeps pool, slot and area (`released-stays`), so after its units are no longer counted the block may settle
+-- (`settles-after`). `settle` promises its turn for every answer, so this does too. Assumes nothing.
 use Prim.Native.Nat.{ℕ, _-_}
 use mathlib.Core.Path.{_≡_, sym, ap, subst, _∙_}
 use native.Mathlib.Omega.{arith}

@@ -1,3 +1,5 @@
+-- Each branch is the branch of `releaseTurn` with the same test: the shape, address 0, the lookup, and what `held_in` found. A good shape
+-- gives what the callees require, and the units found lie in the block (`held-in-range`). Assumes nothing.
 use Prim.Native.Nat.{_≤_, _<_}
 use mathlib.Core.Bool.{true, false}
 use mathlib.Core.Path.{_≡_, sym, ap, _∙_}
@@ -6,7 +8,7 @@ use lib.ListN.{length}
 use Rattle.state.specs.declared.Outcome.{Outcome}
 use Rattle.state.specs.declared.Found.{Found}
 use Rattle.state.specs.declared.Held.{Held}
-use Rattle.state.specs.declared.Held.the-variants.{NoSpan, NoStop, Units}
+use Rattle.state.specs.declared.Held.the-variants.{NoSpan, NoStop, Range}
 use Rattle.state.specs.Table.{blockAt}
 use Rattle.state.specs.Shape.{goodShape}
 use Rattle.state.specs.Find.{holds, lookup}
@@ -103,7 +105,7 @@ returns-5 c =
 returns-6 : tie.Need-returns-6
 returns-6 c =
     let g = c .before .before .before .before .before .before .before .before .held .given .0 in
-    c .before .before .before .before .release-span .ensures ∙ shown (c .before .before .before .before .before .before .before .before .before .before) (Units (g .0) (g .1 .0)) (c .before .before .before .before .before .before .before .before .held .given .1)
+    c .before .before .before .before .release-span .ensures ∙ shown (c .before .before .before .before .before .before .before .before .before .before) (Range (g .0) (g .1 .0)) (c .before .before .before .before .before .before .before .before .held .given .1)
 
 shape-ok-requires : tie.Need-shape-ok-requires
 shape-ok-requires c κs = search needs

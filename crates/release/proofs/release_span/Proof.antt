@@ -1,3 +1,5 @@
+-- The test is the definition's. If it fails, the span is at most as long as the used count and a span is live, as `free_units` requires;
+-- that promises its turn for every answer, so also for this one. Assumes nothing.
 use Prim.Native.Nat.{_-_, _<_}
 use mathlib.Core.Bool.{true, false, _||_}
 use mathlib.Core.Logic.{⊎-elim}
@@ -7,13 +9,13 @@ use borrow.Author.Tests.{eq-eqb, lt-ltb, le-ltb}
 use lib.Dec.{ltb, eqb}
 use lib.ListN.{length}
 use Rattle.numbers.specs.Units.{bytesOf}
-use Rattle.numbers.proofs.Split.{by-eq, not-both}
+use Rattle.numbers.proofs.Bools.{not-both, or-left, or-right}
+use Rattle.numbers.proofs.Split.{by-eq}
 use Rattle.block.specs.declared.Block.{Block}
 use Rattle.state.specs.declared.Outcome.{Outcome}
 use Rattle.state.specs.declared.Span.{Span}
 use Rattle.state.specs.declared.Answer.the-variants.{Released}
 use Rattle.state.specs.Table.{blockAt}
-use Rattle.shape.proofs.Bools.{or-left, or-right}
 use Rattle.machine.specs.Turn.{turn, unitOf, span}
 use Rattle.shape_facts.proofs.Facts.{count-64, spannable}
 use Rattle.release.proofs.Cases.{released-damaged, released-free}

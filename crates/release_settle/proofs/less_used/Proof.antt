@@ -1,3 +1,5 @@
+-- The block read is `blockAt s j`, so its pool is below 3 and is the `poolAt` of the definition. With that the record built is `lessUsed`,
+-- field by field. Assumes nothing.
 use mathlib.Core.Path.{_≡_, ap, _∙_}
 use native.Mathlib.Omega.{arith}
 use Rattle.block.specs.declared.Block.{Block}
@@ -13,8 +15,8 @@ pool c = c .pool-at .ensures ∙ ap (λ (b : Block). poolAt (c .before .before .
 pool-at-requires : tie.Need-pool-at-requires
 pool-at-requires c κs = omega (arith, ap (λ (b : Block). b .pool) (c .block-at .ensures), c .before .pre .1)
 
-sub-pool : tie.Need-sub-pool
-sub-pool c = omega (arith, ap (λ (q : Pool). q .used) (pool (c .before)), c .before .before .before .pre .2)
+sub-q : tie.Need-sub-q
+sub-q c = omega (arith, ap (λ (q : Pool). q .used) (pool (c .before)), c .before .before .before .pre .2)
 
 put-pool-requires : tie.Need-put-pool-requires
 put-pool-requires c κs = omega (arith, ap (λ (b : Block). b .pool) (c .before .before .block-at .ensures), c .before .before .before .pre .1)
@@ -37,7 +39,7 @@ less-used-spec =
     (tie.spec
     block-at-requires
     pool-at-requires
-    sub-pool
+    sub-q
     put-pool-requires
     mul-b
     element-set-from-b

@@ -1,12 +1,14 @@
+-- The tests are the definition's, and each of the three cases has its law: the block has used units (`settle-used`), it is removed
+-- (`settle-gone`), it is kept (`settle-kept`). The laws hold for every answer. Assumes nothing.
 use mathlib.Core.Bool.{true, false, not, _||_}
 use mathlib.Core.Logic.{⊎-elim}
 use mathlib.Core.Path.{_≡_, ap, _∙_}
 use native.Mathlib.Omega.{arith}
 use lib.Dec.{eqb}
 use borrow.Author.Tests.{eq-eqb, ne-eqb}
+use Rattle.numbers.proofs.Bools.{not-of-false, or-left, or-right}
 use Rattle.block.specs.declared.Block.{Block}
 use Rattle.state.specs.Table.{blockAt, poolAt}
-use Rattle.shape.proofs.Bools.{or-left, or-right, not-of-false}
 use Rattle.release_settle.proofs.Settled.{settle-used, settle-gone, settle-kept}
 use borrow.Author.Needs.{needs}
 use Rattle.release_settle.proofs.settle.Statement.{statement}

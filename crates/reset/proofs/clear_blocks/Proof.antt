@@ -1,3 +1,5 @@
+-- The loop keeps: the map is the given one with the slots of the first `i` blocks cleared. Its length never changes, so the next slot lies
+-- in it. At the end `i` is the number of blocks. Assumes nothing.
 use Prim.Native.Nat.{ℕ, _-_, _≤_}
 use mathlib.Core.Path.{_≡_, sym, ap, _∙_}
 use native.Mathlib.Omega.{arith}

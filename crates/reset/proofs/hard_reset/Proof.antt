@@ -1,3 +1,5 @@
+-- A bad shape is refused as by the rule (`bad-is`). With a good one every block's slot lies in both maps (`clearable-used`,
+-- `clearable-stop`), and the cleared maps with the empty table are the rule's turn (`done-is`). Assumes nothing.
 use mathlib.Core.Bool.{true}
 use mathlib.Core.Path.{_≡_, sym, ap, _∙_}
 use borrow.Author.Tests.{not-true, not-false}

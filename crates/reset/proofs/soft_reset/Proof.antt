@@ -1,3 +1,5 @@
+-- A bad shape is refused as by the rule (`bad-is`). With a good one every block's slot lies in both maps, and its area fits a pool's sum
+-- (`keepable`); the cleared maps with the table that is kept are the rule's turn (`done-is`). Assumes nothing.
 use mathlib.Core.Bool.{true, false}
 use mathlib.Core.Path.{_≡_, sym, ap, _∙_}
 use borrow.Author.Tests.{not-true, not-false}

@@ -1,3 +1,5 @@
+-- The ones of the first word, masked below `start`, are its free units from `start` on (`seen-first`). If that word starts at or after
+-- `end`, the window is empty, and there is nothing to see. Assumes nothing.
 use mathlib.Core.Path.{refl}
 use mathlib.Core.Bool.{false}
 use native.Mathlib.Omega.{arith}

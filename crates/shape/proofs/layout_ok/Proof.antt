@@ -1,4 +1,5 @@
--- `whole::layout_ok` meets its contract. The invariant: neighbours in order so far (`Ordered`). Assumes nothing.
+-- The loop keeps `Ordered`: the first `k` places hold ages, and each block starts at or after the end of the one before. So a return fails
+-- the definition's test (`age-fails`, `gap-fails`), and at the end only the zeros are left to test (`layout-done`). Assumes nothing.
 use Prim.Native.Nat.{ℕ, _-_}
 use mathlib.Core.Path.{_≡_, sym, _∙_, subst}
 use native.Mathlib.Omega.{arith}

@@ -1,4 +1,4 @@
--- `whole::shape_ok` meets its contract: its parts are the printed clauses. Assumes nothing.
+-- Its three parts together are the printed clauses of BadShape. Assumes nothing.
 use mathlib.Core.Path.{sym, _∙_}
 use borrow.Author.Tests.{not-true, not-false}
 use Rattle.shape.proofs.Head.{headed}

@@ -1,4 +1,6 @@
--- `tally::table_ok` meets its contract. The invariant is `Walked`, whose laws do the work. Assumes nothing.
+-- The loop keeps `Walked`: the first `i` blocks pass, `seen` has exactly their slots, which differ, and `sums` and `used` are their sums.
+-- So a return fails the definition's test (`block-fails`, `slot-fails`, `pools-fail`), and at the end all are tested (`walk-done`). Assumes
+-- nothing.
 use Prim.Native.Nat.{ℕ, _+_, _-_}
 use mathlib.Core.Path.{_≡_, sym, _∙_, subst}
 use mathlib.Core.Bool.{true, false}

@@ -1,4 +1,5 @@
--- `whole::zeros_ok` meets its contract. The invariant: zeros so far. Assumes nothing.
+-- The loop keeps: entries before `i` pass the test. An entry that is not zero fails the definition's (`block-not-zero`, `age-not-zero`); at
+-- the end all 64 pass (`all-of`). Assumes nothing.
 use Prim.Native.Nat.{ℕ, _-_, _≤_, _<_}
 use mathlib.Core.Path.{_≡_, sym, _∙_}
 use mathlib.Core.Bool.{true}

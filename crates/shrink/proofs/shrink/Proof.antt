@@ -1,3 +1,5 @@
+-- A size of 0 is a release in the rule too (`shrink-none`). Otherwise each branch is the branch of `shrinkTurn` with the same test: the
+-- shape, address 0, the lookup, what `held_in` found, and the used count. A good shape gives what the callees require. Assumes nothing.
 use Prim.Native.Nat.{_-_, _≤_, _<_}
 use mathlib.Core.Bool.{true, false}
 use mathlib.Core.Path.{_≡_, sym, ap, _∙_}
@@ -8,7 +10,7 @@ use Rattle.block.specs.declared.Block.{Block}
 use Rattle.state.specs.declared.Outcome.{Outcome}
 use Rattle.state.specs.declared.Found.{Found}
 use Rattle.state.specs.declared.Held.{Held}
-use Rattle.state.specs.declared.Held.the-variants.{NoSpan, NoStop, Units}
+use Rattle.state.specs.declared.Held.the-variants.{NoSpan, NoStop, Range}
 use Rattle.state.specs.Table.{blockAt}
 use Rattle.state.specs.Shape.{goodShape}
 use Rattle.state.specs.Find.{holds, lookup}
@@ -112,7 +114,7 @@ returns-7 c =
     let g = c .before .before .before .before .before .held .given .0 in
     ap (λ (o : Outcome). turn (o .answer) (o .state) (a .used .now) (a .stop .now)) (c .refused6 .ensures)
     ∙ shrunk-damaged (a .s) (a .used .now) (a .stop .now) (a .address) (a .size) j (g .0) (g .1 .0) (lt-ltb (blockAt (a .s) j .used) (g .1 .0 - g .0) (omega (arith, c .before .if4 .taken, used-is (c .before .before .before))))
-    ∙ shown (c .before .before .before .before .before .before .before) (Units (g .0) (g .1 .0)) (c .before .before .before .before .before .held .given .1)
+    ∙ shown (c .before .before .before .before .before .before .before) (Range (g .0) (g .1 .0)) (c .before .before .before .before .before .held .given .1)
 
 shrink-span-requires : tie.Need-shrink-span-requires
 shrink-span-requires c κs = ((shaped (c .before .before .before .before .before .before .before .before .before .before .before .before .before .before .before .before), here (c .before .before .before .before .before .before .before .before .before .before .before) .0, range (c .before .before .before .before .before .before)), (omega (arith, c .before .before .if4 .left, used-is (c .before .before .before .before)), omega (arith, c .before .before .before .before .before .before .before .before .before .before .before .before .before .before .before .before .before .before .if1 .left)))
@@ -134,7 +136,7 @@ returns-8 c =
     let g = c .before .before .before .before .before .before .before .before .before .before .before .held .given .0 in
     c .before .before .before .before .shrink-span .ensures
     ∙ shrunk-units (a .s) (a .used .now) (a .stop .now) (a .address) (a .size) j (g .0) (g .1 .0) (le-ltb (blockAt (a .s) j .used) (g .1 .0 - g .0) (omega (arith, c .before .before .before .before .before .before .before .if4 .left, used-is (c .before .before .before .before .before .before .before .before .before))))
-    ∙ shown (c .before .before .before .before .before .before .before .before .before .before .before .before .before) (Units (g .0) (g .1 .0)) (c .before .before .before .before .before .before .before .before .before .before .before .held .given .1)
+    ∙ shown (c .before .before .before .before .before .before .before .before .before .before .before .before .before) (Range (g .0) (g .1 .0)) (c .before .before .before .before .before .before .before .before .before .before .before .held .given .1)
 
 release-requires : tie.Need-release-requires
 release-requires c κs = search needs

@@ -1,4 +1,5 @@
--- `size_to_pool_id` meets its contract, by the laws of the walk over the pools. Assumes nothing.
+-- The loop keeps `Walk`: `step` is pool `id`'s, and the size's pool is the one found from `id` down. So a pool whose step divides the size
+-- is the size's (`walk-here`), and so is pool 0 if none above does (`walk-ends`). Assumes nothing.
 use mathlib.Core.Path.{sym, _∙_}
 use native.Mathlib.Omega.{arith}
 use Rattle.sizes.proofs.Pools.{few}

@@ -1,4 +1,5 @@
--- `slots::slot_mut` meets its contract: a walk of its MIR, by hand. The ghost steps are `Part.antt`'s `part-out`, taken at exit, under the `post`'s update. Assumes nothing.
+-- A walk of the function's MIR, by hand. The ghost steps are `Part.antt`'s `part-out`, taken at the exit, under the `post`'s update.
+-- Assumes nothing.
 use mathlib.Core.Path.{_≡_, refl, sym, _∙_, subst}
 use Prim.Native.Nat.{ℕ, _<_, _≤_, _^_, _+_, _*_, _-_}
 use native.Mathlib.Omega.{arith}

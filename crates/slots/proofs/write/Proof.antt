@@ -1,5 +1,6 @@
--- `slots::write` meets its contract: a walk of its MIR, by hand. All that it knows of `slot_mut` and `put` is that each meets its contract.
--- Both are called at the borrow's own lifetime and share. `words` is given up for good (`gave-slice`): what `put` says of the part's last list is, by `slot_mut`'s `GoesBack`, what is said of `words`'s. Assumes nothing.
+-- A walk of the function's MIR, by hand. All that it knows of `slot_mut` and `put` is their contracts. Both are called at the borrow's own
+-- lifetime and share. `words` is given up for good (`gave-slice`): by `slot_mut`'s `GoesBack`, what `put` says of the part's last list says
+-- the last list of `words`. Assumes nothing.
 use mathlib.Core.Path.{_≡_, refl, sym, _∙_, ap, subst}
 use Prim.Native.Nat.{ℕ, _<_, _≤_, _^_, _+_, _*_}
 use native.Mathlib.Omega.{arith}

@@ -1,3 +1,5 @@
+-- A unit that is no start is `NoSpan` in both. Otherwise the first stop bit from the unit on is the definition's if it lies in the area
+-- (`stop-found`); if not, the area has none (`stop-none`). Assumes nothing.
 use borrow.Author.Tests.{not-true, not-false}
 use mathlib.Core.Path.{_≡_, sym, ap, _∙_}
 use mathlib.Core.Bool.{true, false}

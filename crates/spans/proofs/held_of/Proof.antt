@@ -1,3 +1,5 @@
+-- An offset that is no multiple of the unit is `NoSpan` in both. Otherwise rounding up is dividing (`units-even`), and the address lies in
+-- the block, so the unit lies in the area. Assumes nothing.
 use native.Mathlib.Nat.{div-lt-iff-lt-mul, mul-le-mul-right}
 use Prim.Native.Nat.{ℕ, _+_, _-_, _*_, _/_, _%_, _^_, _≤_, _<_}
 use mathlib.Core.List.{List}
@@ -5,7 +7,7 @@ use mathlib.Core.Path.{_≡_, ap, ap₂, _∙_}
 use native.Mathlib.Omega.{arith}
 use borrow.Author.Tests.{eq-eqb, ne-eqb}
 use lib.ListN.{length}
-use Rattle.numbers.proofs.Units.{units-even}
+use Rattle.numbers.proofs.Units.{units-whole}
 use Rattle.numbers.specs.Units.{unitsOf}
 use Rattle.slots.specs.Slots.{slotOf}
 use Rattle.slots.proofs.Laws.{length-slot}
@@ -17,7 +19,7 @@ use Rattle.spans.proofs.held_of.Tie as tie
 -- the unit is a unit of the block
 unit-in : (area unit offset : ℕ) → 0 < unit → offset < area * unit → offset % unit ≡ 0 → (at : ℕ) → at ≡ unitsOf offset unit → (at ≡ offset / unit) × (at < area)
 unit-in area unit offset h l e at q =
-    let r : at ≡ offset / unit = q ∙ units-even offset unit h e in
+    let r : at ≡ offset / unit = q ∙ units-whole offset unit h e in
     (r, omega (arith, r, div-lt-iff-lt-mul {k = unit} {x = offset} {y = area} h .1 l))
 
 -- its units fit 32 bits

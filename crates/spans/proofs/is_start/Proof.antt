@@ -1,3 +1,5 @@
+-- Each return is a case of `starts`: the unit is free, or it is unit 0, or the one before is free, or else that one's stop bit decides. A
+-- bit read as true is 1, and one read as false is 0. Assumes nothing.
 use Prim.Native.Nat.{_-_}
 use lib.Dec.{eqb}
 use Rattle.bits.specs.Bits.{bit}

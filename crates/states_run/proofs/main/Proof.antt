@@ -1,4 +1,4 @@
--- `states_run::main` meets its contract. The invariant says nothing; the measure is the bound. Assumes nothing.
+-- It promises nothing. The invariant says nothing; `left` falls, so the loop ends. Assumes nothing.
 use borrow.Author.Needs.{needs}
 use Rattle.states_run.proofs.main.Statement.{statement}
 use Rattle.states_run.proofs.main.Tie as tie

@@ -1,4 +1,4 @@
--- `states_run::map_words` meets its contract. By a lemma, since a search would count the words one by one. Assumes nothing.
+-- An array of 262,144 zeros has that length: by a lemma, since a search would count the words one by one. Assumes nothing.
 use Prim.Native.Nat.{ℕ}
 use mathlib.Core.Path.{sym}
 use lib.ListN.{length-replicate}

@@ -1,4 +1,4 @@
--- `states_run::play_lent` meets its contract. A part of so many words has so many. Assumes nothing.
+-- It promises nothing but to stay in range: both lengths are tested before the parts are lent. Assumes nothing.
 use native.Mathlib.Omega.{arith}
 use mathlib.Core.Path.{sym}
 use lib.Seq.{length-take-le}

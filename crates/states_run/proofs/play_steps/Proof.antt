@@ -1,4 +1,4 @@
--- `states_run::play_steps` meets its contract. The invariant: the slices keep their lengths. The measure is the bound. Assumes nothing.
+-- It promises nothing. The loop keeps the lengths of the slices; `left` falls, so it ends. Assumes nothing.
 use mathlib.Core.Path.{_≡_}
 use lib.ListN.{length}
 use borrow.Author.Needs.{needs}

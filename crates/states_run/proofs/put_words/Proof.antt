@@ -1,4 +1,4 @@
--- `states_run::put_words` meets its contract. The invariant: the slice keeps its length. The measure is how many words are left. Assumes nothing.
+-- It promises nothing but to stay in range. The loop keeps the length of the slice, and its test bounds the index. Assumes nothing.
 use Prim.Native.Nat.{_-_}
 use mathlib.Core.Path.{_≡_}
 use lib.ListN.{length}

@@ -1,3 +1,5 @@
+-- It promises nothing but to stay in range. The loop keeps `i` at most 8, and takes 1 off before each read, so the index lies in the eight
+-- bytes. Assumes nothing.
 use Prim.Native.Nat.{_≤_}
 use borrow.Author.Needs.{needs}
 use Rattle.states_run.proofs.read_u64.Statement.{statement}

@@ -1,3 +1,5 @@
+-- It promises nothing but to stay in range. The invariant says nothing: the test `i < 64` bounds both indexes in each turn. Assumes
+-- nothing.
 use Prim.Native.Nat.{_-_}
 use borrow.Author.Needs.{needs}
 use Rattle.states_run.proofs.show_entries.Statement.{statement}

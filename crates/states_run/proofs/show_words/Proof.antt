@@ -1,4 +1,4 @@
--- `states_run::show_words` meets its contract. The invariant says nothing; the measure is how many words are left. Assumes nothing.
+-- It promises nothing but to stay in range. The invariant says nothing: the loop's test bounds the index in each turn. Assumes nothing.
 use Prim.Native.Nat.{_-_}
 use lib.ListN.{length}
 use borrow.Author.Needs.{needs}

@@ -1,3 +1,5 @@
+-- The loop keeps: blocks at places before `low` end at or before the address, and those from `high` on start after it. The blocks are in
+-- order, so the middle one decides for all on its side; once `low` is `high`, no block holds the address (`look-none`). Assumes nothing.
 use Prim.Native.Nat.{ℕ, _+_, _-_, _/_, _≤_, _<_}
 use mathlib.Core.Logic.{inl, inr}
 use native.Mathlib.Omega.{arith}

@@ -1,3 +1,5 @@
+-- The loop keeps: no slot below `k` is free. `taken` says which slots are not free, so the first one it lacks is the lowest free slot
+-- (`slot-here`); if it has them all, none is free (`slot-none`). Assumes nothing.
 use Prim.Native.Nat.{ℕ, _-_, _≤_, _<_}
 use mathlib.Core.Bool.{false}
 use mathlib.Core.Path.{_≡_, ap, _∙_}

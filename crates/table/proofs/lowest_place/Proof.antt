@@ -1,3 +1,5 @@
+-- The loop keeps `Passed`: the first `k` blocks end at or before `at`, the others start at or after it, and at every lower multiple of
+-- 65,536 a block is in the way. So the first gap that is long enough is the lowest place (`place-gap`). Assumes nothing.
 use Rattle.state.specs.Table.{blockAt, ageAt}
 use Prim.Native.Nat.{ℕ, _+_, _-_, _≤_}
 use mathlib.Core.Path.{_≡_, sym, subst}

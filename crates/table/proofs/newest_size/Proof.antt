@@ -1,3 +1,5 @@
+-- The loop keeps: `size` is the size of the latest of the first `i` blocks that is in the pool, or the base size if none is. At its end
+-- these are all blocks. Assumes nothing.
 use Rattle.state.proofs.Find.{latest-here, latest-skip}
 use Prim.Native.Nat.{ℕ, _-_, _≤_}
 use mathlib.Core.Path.{_≡_, refl, sym, ap, _∙_}

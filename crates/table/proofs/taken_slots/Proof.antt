@@ -1,3 +1,4 @@
+-- The loop keeps: `taken` says of each slot whether one of the first `i` blocks has it. At its end these are all blocks. Assumes nothing.
 use Prim.Native.Nat.{ℕ, _-_, _≤_}
 use mathlib.Core.Path.{_≡_, subst}
 use native.Mathlib.Omega.{arith}

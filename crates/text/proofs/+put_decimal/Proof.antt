@@ -1,3 +1,5 @@
+-- The recursion ends, since `n / 10` is below `n`. A number below 10 is one digit (`few`); the text of another one is that of `n / 10` and
+-- its last digit (`more`). `n / 10` has at most 19 digits (`tenth-most`), so there is room for the last. Assumes nothing.
 use mathlib.Core.List.{List}
 use mathlib.Core.Path.{subst}
 use native.Mathlib.Nat.{div-lt-self}

@@ -1,3 +1,5 @@
+-- The loop keeps: the first `i` bytes are in `out` from `at` on, and no other byte changed. At its end these are all bytes. Assumes
+-- nothing.
 use Prim.Native.Nat.{ℕ, _+_, _-_, _≤_}
 use mathlib.Core.List.{List}
 use mathlib.Core.Path.{_≡_, refl, ap, _∙_}

@@ -1,3 +1,5 @@
+-- The loop keeps `Going`: the whole run is what was played so far, and then a run of at most `left` records; `out` has room for their
+-- lines. A whole record is one step of it; a cut record, a bad one or no room ends it, as in the definition. Assumes nothing.
 use Prim.Native.Nat.{_-_, _/_}
 use mathlib.Core.Path.{_≡_, refl, sym, ap, _∙_}
 use native.Mathlib.Omega.{arith}

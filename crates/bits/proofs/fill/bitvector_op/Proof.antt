@@ -1,3 +1,5 @@
+-- Bit `index % 32` of the words from `index / 32` on is bit `index` of all words, and no word before them changes. So what is `Filled` in
+-- that part is `Filled` in the whole (`filled-lent`). Assumes nothing.
 use borrow.Author.Needs.{needs}
 use native.Mathlib.Omega.{arith}
 use mir.Val.{boolByte}

@@ -1,3 +1,5 @@
+-- The loop keeps: the `i` bits from `index` on are `value`, and no other bit changed. At its end `i` is `count`, so the range is `Filled`.
+-- Assumes nothing.
 use Prim.Native.Nat.{ℕ, _≤_, _-_}
 use mathlib.Core.Path.{_≡_, subst}
 use native.Mathlib.Omega.{arith}

@@ -1,3 +1,5 @@
+-- The loop keeps `Seen`: no bit from `start` up to the current word is `value`, and the ones of `bits` are the bits of this word that are.
+-- So the lowest one is the first such bit; if the words end, there is none. Assumes nothing.
 use Prim.Native.Nat.{_+_, _*_, _-_, _<_}
 use native.Mathlib.Omega.{arith}
 use borrow.Author.Needs.{needs}

@@ -1,3 +1,5 @@
+-- `search_window` answers `Sought` for the block's slot, and only `seek`'s answer is `Sought` (`seek-only`): so each branch is that of
+-- `lookInto`. The answer's numbers lie in the window, so they fit 32 bits. Assumes nothing.
 use mathlib.Core.Path.{_≡_, sym, ap, _∙_, subst}
 use mathlib.Core.Bool.{true, false}
 use native.Mathlib.Omega.{arith}

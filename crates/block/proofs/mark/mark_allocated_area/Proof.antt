@@ -1,3 +1,5 @@
+-- The span lies in the block, and the block's units in its slot, so both marks lie in the slot. The callees' contracts then say the two
+-- maps and the record of `markAllocated`. Assumes nothing.
 use borrow.Author.Needs.{needs}
 use Rattle.block.proofs.mark.mark_allocated_area.Statement.{statement}
 use Rattle.block.proofs.mark.mark_allocated_area.Tie as tie

@@ -1,3 +1,5 @@
+-- `from` is above 0, so the new last unit, `from - 1`, lies in the slot. The stop map is what `unmark_area` left with that bit set: with
+-- the used map and the record, that is `markShrunk`. Assumes nothing.
 use mathlib.Core.Path.{ap, ap₂, _∙_}
 use Rattle.block.specs.declared.Block.{Block}
 use Rattle.block.specs.Marking.{painted, shrunk}

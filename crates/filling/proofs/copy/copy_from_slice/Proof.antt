@@ -1,9 +1,11 @@
+-- A span that the query shows lies in the arena (`looked-lies`), as `write` requires, whose answer and image are the definition's. If the
+-- query shows none, answer and image stay as they are, as in the definition (`not-shown`). Assumes nothing.
 use mathlib.Core.Path.{sym, ap, subst, _∙_}
 use denote.Ref.{now}
 use lib.ListN.{length}
 use Rattle.state.specs.declared.Answer.{Answer}
 use Rattle.filling.specs.Copying.{fits, written}
-use Rattle.filling.proofs.Copying.{IfShown, Lies, looked-lies, not-shown}
+use Rattle.filling.proofs.Copying.{IfShown, LiesWithin, looked-lies, not-shown}
 use borrow.Author.Needs.{needs}
 use Rattle.filling.proofs.copy.copy_from_slice.Statement.{statement}
 use Rattle.filling.proofs.copy.copy_from_slice.Tie as tie
@@ -18,7 +20,7 @@ write-requires : tie.Need-write-requires
 write-requires c κs =
     let a = c .before .before .before .before .before .before .before .before .before .args in
     let shown = sym (c .before .before .before .before .look-up .ensures) ∙ c .before .before .shown .given .1 in
-    subst (IfShown (Lies (a .s .arena) (length (now (a .image))) (a .address))) shown
+    subst (IfShown (LiesWithin (a .s .arena) (length (now (a .image))) (a .address))) shown
     (looked-lies (a .s) (now (a .used)) (now (a .stop)) (length (now (a .image))) (a .address)) .0
 
 same-length : tie.Need-same-length

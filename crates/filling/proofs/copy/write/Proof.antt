@@ -1,3 +1,5 @@
+-- Either test says that offset plus length passes the span, without a sum that could overflow (`no-room`). If both fail, the bytes fit
+-- (`room`), and the span lies in the image: so `put_bytes` writes them there. Assumes nothing.
 use mathlib.Core.Path.{refl}
 use native.Mathlib.Omega.{arith}
 use denote.Ref.{now}

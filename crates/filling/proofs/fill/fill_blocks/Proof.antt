@@ -1,3 +1,5 @@
+-- The loop keeps: the image is the given one with the first `i` blocks filled. Its length never changes, so each block lies in it. At the
+-- end `i` is the number of blocks. Assumes nothing.
 use Prim.Native.Nat.{ℕ, _-_, _≤_}
 use mathlib.Core.List.{List}
 use mathlib.Core.Path.{_≡_, ap, _∙_}

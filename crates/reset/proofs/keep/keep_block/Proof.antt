@@ -11,17 +11,17 @@ emptied-record-requires c κs = search needs
 insert-block-requires : tie.Need-insert-block-requires
 insert-block-requires c κs = subst (λ (b : Block). Insertable (c .before .args .r) b) (sym (c .emptied-record .ensures)) (c .before .pre)
 
-mul-pool : tie.Need-mul-pool
-mul-pool c = search needs
+mul-q : tie.Need-mul-q
+mul-q c = search needs
 
-element-copy-out-pool : tie.Need-element-copy-out-pool
-element-copy-out-pool c = search needs
+element-copy-out-q : tie.Need-element-copy-out-q
+element-copy-out-q c = search needs
 
-mul-pool-2 : tie.Need-mul-pool-2
-mul-pool-2 c = search needs
+mul-q-2 : tie.Need-mul-q-2
+mul-q-2 c = search needs
 
-element-set-from-pool : tie.Need-element-set-from-pool
-element-set-from-pool c = search needs
+element-set-from-q : tie.Need-element-set-from-q
+element-set-from-q c = search needs
 
 returns : tie.Need-returns
 returns c = rw (c .before .insert-block .ensures, c .before .before .emptied-record .ensures)
@@ -32,8 +32,8 @@ keep-block-spec =
     (tie.spec
     emptied-record-requires
     insert-block-requires
-    mul-pool
-    element-copy-out-pool
-    mul-pool-2
-    element-set-from-pool
+    mul-q
+    element-copy-out-q
+    mul-q-2
+    element-set-from-q
     returns)

@@ -1,3 +1,5 @@
+-- The loop keeps `Keeping`: the record is `kept s i`, and `seen[p]` tells whether one of the first `i` blocks is in pool p. So block `i` is
+-- its pool's oldest exactly if `seen` lacks its pool, and exactly then it is kept. Assumes nothing.
 use Prim.Native.Nat.{ℕ, _+_, _-_}
 use mathlib.Core.Bool.{Bool, false}
 use mathlib.Core.List.{List}

@@ -1,3 +1,5 @@
+-- The loop keeps: the units from `from` up to `to` are free, and `to` is the end of word `at` or of the window. A word without used units
+-- adds its own (`zero-word`); in another one the lowest used unit ends the run (`ends-later`). Assumes nothing.
 use Prim.Native.Nat.{ℕ, _+_, _*_, _-_, _≤_, _<_, min}
 use mathlib.Core.Path.{_≡_}
 use native.Mathlib.Omega.{arith}

@@ -1,3 +1,5 @@
+-- All units before the lowest free one that is left are used (`lowest`), so the run starts there. It ends at the next used unit of its word
+-- (`ends-here`), or else `extend` follows it. If no free unit is left, all units up to `end` are used. Assumes nothing.
 use Prim.Native.Nat.{ℕ, _+_, _*_, _^_, _<_}
 use mathlib.Core.Path.{refl, ap, _∙_}
 use mathlib.Core.Bool.{false}

@@ -1,3 +1,5 @@
+-- The loop keeps: what was `Seen` at the start is `Seen` at word `at`. A word with no ones has no free unit left (`seen-none`), so the walk
+-- may go on to the next word (`seen-word`). Assumes nothing.
 use Prim.Native.Nat.{ℕ, _+_, _-_, _≤_}
 use mathlib.Core.Path.{refl}
 use mathlib.Core.Bool.{false}

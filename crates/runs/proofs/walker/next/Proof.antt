@@ -1,6 +1,6 @@
--- `held::next` meets its contract: a walk of its MIR, by hand. The struct is taken apart, and `next_range` is called on the slice and the
--- numbers. All that the proof knows of `next_range` is that it meets its contract. The struct is Copy: what it owns is had twice, one copy is
--- kept whole for the exit, and of the other what slice owns goes to the callee, beside the lifetime's token, which comes back. Assumes nothing.
+-- A walk of the function's MIR, by hand. It takes the struct apart and calls `next_range` on the slice and the numbers; all that the proof
+-- knows of `next_range` is its contract. The struct is Copy, so what it owns is had twice: one copy is kept whole for the exit; of the
+-- other, what the slice owns goes to the callee, beside the lifetime's token, which comes back. Assumes nothing.
 use mathlib.Core.Path.{_≡_, refl}
 use Prim.Native.Nat.{ℕ, _<_, _^_}
 use mathlib.Core.List.{[], _∷_}

@@ -1,6 +1,6 @@
--- `held::step` meets its contract: a walk of its MIR, by hand. A `BitVectorRangeIterator` is made in a local of the slice and the numbers passed,
--- and goes to `next`, of which the proof knows only that it meets its contract. A `&[u32]` is Copy, so what it owns is had twice: once for
--- slice at exit, and once inside the struct. Assumes nothing.
+-- A walk of the function's MIR, by hand. It makes a `BitVectorRangeIterator` in a local out of the slice and the numbers, and hands it to
+-- `next`; all that the proof knows of `next` is its contract. A `&[u32]` is Copy, so what it owns is had twice: once for the slice at the
+-- exit, and once inside the struct. Assumes nothing.
 use mathlib.Core.Path.{refl}
 use Prim.Native.Nat.{ℕ, _<_, _^_}
 use mathlib.Core.List.{List, [], _∷_}

@@ -1,3 +1,5 @@
+-- The loop keeps `Known`: up to `passed`, `first` is the first free unit, and the longest free run has `longest` units, fewer than `n`. So
+-- the first run of `n` units is the lowest place (`fit-here`); if none comes, the window is tight or full. Assumes nothing.
 use Prim.Native.Nat.{_-_}
 use mathlib.Core.Path.{subst}
 use native.Mathlib.Omega.{arith}

@@ -1,4 +1,5 @@
--- `sound::block_ok` meets its contract: each refusal fails the test of its own, and the two differences say what the definition's sums say. Assumes nothing.
+-- Each early return fails one of the definition's tests (`every-fails`); if there is none, `empty_ok` decides. The two differences in the
+-- code can't wrap there, and say what the definition's sums say. Assumes nothing.
 use Prim.Native.Nat.{_+_, _*_, _%_}
 use mathlib.Core.Path.{sym, _∙_}
 use mathlib.Core.Bool.{and-true}
@@ -6,9 +7,9 @@ use native.Mathlib.Omega.{arith}
 use borrow.Author.Tests.{lt-ltb, le-ltb, le-leb, lt-leb, eq-eqb, ne-eqb}
 use lib.Dec.{eqb}
 use native.Mathlib.Nat.{mul-le-mul}
+use Rattle.numbers.proofs.Bools.{not-of-true}
 use Rattle.state.proofs.Tests.{every-fails}
 use Rattle.shape.specs.Parts.{blockTests, blockOk}
-use Rattle.shape.proofs.Bools.{not-of-true}
 use borrow.Author.Needs.{needs}
 use Rattle.shape.proofs.blocks.block_ok.Statement.{statement}
 use Rattle.shape.proofs.blocks.block_ok.Tie as tie

@@ -1,4 +1,4 @@
--- `sound::empty_ok` meets its contract, by the flag. Assumes nothing.
+-- By the flag: each branch is a case of `emptyOk`. Assumes nothing.
 use mathlib.Core.Path.{sym}
 use borrow.Author.Needs.{needs}
 use Rattle.shape.proofs.blocks.empty_ok.Statement.{statement}

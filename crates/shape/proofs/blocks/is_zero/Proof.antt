@@ -1,4 +1,4 @@
--- `shape::is_zero` meets its contract, field by field. Assumes nothing.
+-- Field by field: each return is that field's test in `isZero`. Assumes nothing.
 use mathlib.Core.Path.{sym}
 use mathlib.Core.Bool.{and-false, and-true}
 use borrow.Author.Tests.{eq-eqb, ne-eqb}

@@ -1,4 +1,5 @@
--- `shape::arena_ok` meets its contract: a number that breaks a rule fails that rule's test, and past the bound on the base the difference is the sum's test. Assumes nothing.
+-- Each early return fails one of the definition's tests. The base is at most the bound there, so the difference doesn't wrap and says what
+-- the definition's sum says. Assumes nothing.
 use Prim.Native.Nat.{_+_, _%_, _^_}
 use mathlib.Core.Path.{sym}
 use mathlib.Core.Bool.{and-false}

@@ -1,4 +1,4 @@
--- `shape::head_ok` meets its contract. The product fits, since both numbers were bounded before. Assumes nothing.
+-- Each early return fails one of the definition's tests. The product fits, since both numbers were bounded before. Assumes nothing.
 use Prim.Native.Nat.{_*_}
 use mathlib.Core.Path.{sym, _∙_}
 use mathlib.Core.Bool.{and-false}

@@ -1,12 +1,12 @@
--- `shape::numbers_ok` meets its contract, one test after the other. Assumes nothing.
+-- Each early return fails one of the definition's tests; if none returns, the arena's test decides. Assumes nothing.
 use lib.Dec.{eqb}
-use Rattle.shape.proofs.Bools.{or-left, or-right}
 use mathlib.Core.Path.{sym, _∙_}
 use mathlib.Core.Bool.{and-false, and-true}
 use native.Mathlib.Omega.{arith}
 use borrow.Author.Tests.{le-leb, lt-leb, eq-eqb, ne-eqb, not-true, not-false}
 use mathlib.Core.Logic.{⊎-elim}
 use borrow.Author.Needs.{needs}
+use Rattle.numbers.proofs.Bools.{or-left, or-right}
 use Rattle.shape.proofs.creation.numbers_ok.Statement.{statement}
 use Rattle.shape.proofs.creation.numbers_ok.Tie as tie
 

@@ -1,9 +1,8 @@
 -- `shape::pool_matches` meets its contract, by immediate release. Assumes nothing.
-use Rattle.shape.proofs.Bools.{and-then}
 use Rattle.shape.proofs.Sums.{none-at-most}
 use lib.Dec.{leb}
 use Rattle.numbers.specs.Pick.{pick}
-use Rattle.state.proofs.Tests.{and-fails-left}
+use Rattle.numbers.proofs.Bools.{and-fails-left, and-then}
 use Rattle.shape.specs.Parts.{samePool}
 use mathlib.Core.Path.{_≡_, sym, ap, _∙_}
 use mathlib.Core.Bool.{Bool, true}

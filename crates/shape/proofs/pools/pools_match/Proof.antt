@@ -1,4 +1,5 @@
--- `tally::pools_match` meets its contract. The invariant: the pools before pass. Assumes nothing.
+-- The loop keeps: the pools before `p` match. So the first that doesn't fails the definition's test (`all-fails`), and at the end all pass
+-- (`all-of`). Assumes nothing.
 use Prim.Native.Nat.{ℕ, _-_, _≤_, _<_}
 use mathlib.Core.Path.{_≡_, sym, ap, _∙_}
 use mathlib.Core.Bool.{Bool, true}

@@ -1,3 +1,5 @@
+-- In a good shape the block lies in its slot (`placed`), and its pool's used count covers the block's (`less-ready`). The callees' results
+-- are those of `markShrunk` and `lessUsed`, whatever the answer is. Assumes nothing.
 use Prim.Native.Nat.{_-_}
 use mathlib.Core.Path.{ap, _∙_}
 use native.Mathlib.Omega.{arith}

@@ -1,3 +1,5 @@
+-- The size passes the span's bytes exactly if its units pass the span's units (`units-over`, `units-within`): so comparing bytes decides as
+-- the rule does. A size within the span has at most its units, which fit 32 bits. Assumes nothing.
 use Prim.Native.Nat.{ℕ, _-_, _*_, _^_, _≤_, _<_}
 use mathlib.Core.Path.{ap, _∙_}
 use native.Mathlib.Omega.{arith}

@@ -1,3 +1,5 @@
+-- The place is at most the number of blocks (`or-else-le`), and the table has room for one more, as `with_age` requires. The record built
+-- is then `inserted`, field by field. Assumes nothing.
 use Rattle.state.proofs.Lengths.{order-64}
 use native.Mathlib.Omega.{arith}
 use lib.Dec.{ltb}
@@ -16,17 +18,17 @@ with-age-requires c κs =
     let b = c .before .before .args .b in
     ((omega (arith, c .before .place-of .ensures, or-else-le (s .count) (λ k. ltb (b .base) (blockAt s (ageAt s k) .base))), c .before .before .pre .room, order-64 s _ (c .before .before .good .0)), c .before .before .pre .order-rest)
 
-mul-pool : tie.Need-mul-pool
-mul-pool c = search needs
+mul-q : tie.Need-mul-q
+mul-q c = search needs
 
-element-copy-out-pool : tie.Need-element-copy-out-pool
-element-copy-out-pool c = search needs
+element-copy-out-q : tie.Need-element-copy-out-q
+element-copy-out-q c = search needs
 
-add-pool : tie.Need-add-pool
-add-pool c = search needs
+add-q : tie.Need-add-q
+add-q c = search needs
 
-add-pool-2 : tie.Need-add-pool-2
-add-pool-2 c = search needs
+add-q-2 : tie.Need-add-q-2
+add-q-2 c = search needs
 
 mul-b : tie.Need-mul-b
 mul-b c = search needs
@@ -34,11 +36,11 @@ mul-b c = search needs
 element-set-from-b : tie.Need-element-set-from-b
 element-set-from-b c = search needs
 
-mul-pool-2 : tie.Need-mul-pool-2
-mul-pool-2 c = search needs
+mul-q-2 : tie.Need-mul-q-2
+mul-q-2 c = search needs
 
-element-set-from-pool : tie.Need-element-set-from-pool
-element-set-from-pool c = search needs
+element-set-from-q : tie.Need-element-set-from-q
+element-set-from-q c = search needs
 
 add-r : tie.Need-add-r
 add-r c = search needs
@@ -52,13 +54,13 @@ insert-block-spec =
     (tie.spec
     place-of-requires
     with-age-requires
-    mul-pool
-    element-copy-out-pool
-    add-pool
-    add-pool-2
+    mul-q
+    element-copy-out-q
+    add-q
+    add-q-2
     mul-b
     element-set-from-b
-    mul-pool-2
-    element-set-from-pool
+    mul-q-2
+    element-set-from-q
     add-r
     returns)

@@ -1,3 +1,5 @@
+-- The loop keeps: no block at a place before `k` has a higher base. So the place returned is the lowest whose block has one, or the number
+-- of blocks if there is none (`least-only`). Assumes nothing.
 use Prim.Native.Nat.{ℕ, _-_, _≤_, _<_}
 use mathlib.Core.Bool.{false}
 use mathlib.Core.Path.{_≡_, ap, _∙_}

@@ -1,3 +1,5 @@
+-- The loop keeps: entries up to `k` are the old ones, and those after it, up to `count`, are moved up by one. Once `k` is `place`, writing
+-- `age` there makes every entry the one of `movedUp` (`list-is`). Assumes nothing.
 use Rattle.state.specs.Change.{movedUp}
 use Rattle.state.proofs.Lists.{list-is}
 use Rattle.table.proofs.Shift.{moved-below, moved-here, moved-above}

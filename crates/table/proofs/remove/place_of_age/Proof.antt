@@ -1,3 +1,5 @@
+-- The loop keeps: no place before `k` has the age. So the place returned is the lowest that has it, or `count` if none has (`least-only`).
+-- Assumes nothing.
 use Prim.Native.Nat.{ℕ, _-_, _≤_, _<_}
 use mathlib.Core.Bool.{false}
 use mathlib.Core.Path.{_≡_, ap, _∙_}

@@ -1,3 +1,5 @@
+-- `Removable` has what the callees require. Their lists are those of `removed`, and so are the pool's counts: the record built is
+-- `removed`, field by field. Assumes nothing.
 use borrow.Author.Needs.{needs}
 use Rattle.table.proofs.remove.remove_block.Statement.{statement}
 use Rattle.table.proofs.remove.remove_block.Tie as tie
@@ -8,17 +10,17 @@ mul-b c = search needs
 element-copy-out-b : tie.Need-element-copy-out-b
 element-copy-out-b c = search needs
 
-mul-pool : tie.Need-mul-pool
-mul-pool c = search needs
+mul-q : tie.Need-mul-q
+mul-q c = search needs
 
-element-copy-out-pool : tie.Need-element-copy-out-pool
-element-copy-out-pool c = search needs
+element-copy-out-q : tie.Need-element-copy-out-q
+element-copy-out-q c = search needs
 
-sub-pool : tie.Need-sub-pool
-sub-pool c = search needs
+sub-q : tie.Need-sub-q
+sub-q c = search needs
 
-sub-pool-2 : tie.Need-sub-pool-2
-sub-pool-2 c = search needs
+sub-q-2 : tie.Need-sub-q-2
+sub-q-2 c = search needs
 
 place-of-age-requires : tie.Need-place-of-age-requires
 place-of-age-requires c κs = search needs
@@ -29,11 +31,11 @@ without-age-requires c κs = search needs
 without-block-requires : tie.Need-without-block-requires
 without-block-requires c κs = search needs
 
-mul-pool-2 : tie.Need-mul-pool-2
-mul-pool-2 c = search needs
+mul-q-2 : tie.Need-mul-q-2
+mul-q-2 c = search needs
 
-element-set-from-pool : tie.Need-element-set-from-pool
-element-set-from-pool c = search needs
+element-set-from-q : tie.Need-element-set-from-q
+element-set-from-q c = search needs
 
 sub-r : tie.Need-sub-r
 sub-r c = search needs
@@ -47,14 +49,14 @@ remove-block-spec =
     (tie.spec
     mul-b
     element-copy-out-b
-    mul-pool
-    element-copy-out-pool
-    sub-pool
-    sub-pool-2
+    mul-q
+    element-copy-out-q
+    sub-q
+    sub-q-2
     place-of-age-requires
     without-age-requires
     without-block-requires
-    mul-pool-2
-    element-set-from-pool
+    mul-q-2
+    element-set-from-q
     sub-r
     returns)

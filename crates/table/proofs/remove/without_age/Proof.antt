@@ -1,3 +1,5 @@
+-- The loop keeps `Built`: the first `k` entries are the definition's, and the others are 0. From `count - 1` on the definition's are 0 too,
+-- since the old order ends in zeros; so the list is the definition's (`built-list`). Assumes nothing.
 use Prim.Native.Nat.{ℕ, _+_, _-_, _≤_}
 use mathlib.Core.Path.{ap, _∙_}
 use native.Mathlib.Omega.{arith}

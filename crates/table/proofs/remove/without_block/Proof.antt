@@ -1,3 +1,5 @@
+-- The loop keeps `Built`: the first `k` entries are the definition's, and the others are zero blocks. From `count - 1` on the definition's
+-- are zero blocks too, since the old list ends in them; so the list is the definition's (`built-list`). Assumes nothing.
 use mathlib.Core.Path.{sym, ap, subst, _∙_}
 use lib.ListN.{getD, replicate}
 use Rattle.block.specs.declared.Block.{Block}
