@@ -4,9 +4,10 @@ use mathlib.Core.List.{List}
 use mathlib.Core.Logic.{_⊎_, inl, inr, ⊎-elim}
 use mathlib.Core.Path.{_≡_, sym, _∙_}
 use native.Mathlib.Omega.{arith}
+use lib.Dec.{eqb}
 use lib.ListN.{length}
 use borrow.Author.Tests.{eq-eqb, ne-eqb}
-use Rattle.numbers.proofs.Bools.{not-both}
+use Rattle.numbers.proofs.Bools.{not-both, picked}
 use Rattle.numbers.proofs.Split.{by-eq, by-le}
 use Rattle.bits.specs.Bits.{bit, ones, Filled}
 use Rattle.bits.proofs.Count.{ones-filled, ones-all-one, ones-none}
@@ -26,9 +27,9 @@ moved-high : (x own other k : ℕ) → k < x → (x ≡ own → k < other) → k
 unfolding moved
 moved-high x own other k h f = by-eq x own (λ e. rw (eq-eqb x own e) (f e)) (λ ne. rw (ne-eqb x own ne) h)
 
-moved-le : (x own other top : ℕ) → x ≤ top → other ≤ top → moved x own other ≤ top
+pub moved-le : (x own other top : ℕ) → x ≤ top → other ≤ top → moved x own other ≤ top
 unfolding moved
-moved-le x own other top h g = by-eq x own (λ e. rw (eq-eqb x own e) g) (λ ne. rw (ne-eqb x own ne) h)
+moved-le x own other top h g = picked (λ (n : ℕ). n ≤ top) (eqb x own) other x (λ e. g) (λ e. h)
 
 -- What marking asks: a new block's window leaves the span out already, so only the free units outside the span need lie in it
 pub record Ready (b : Block) (u : List ℕ) (i e : ℕ) : Type 0 where

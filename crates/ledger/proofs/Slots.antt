@@ -16,16 +16,13 @@ use Rattle.block.specs.Record.{Placed}
 use Rattle.block.specs.Marking.{Painted, marked, shrunk, markAllocated, markReleased, markShrunk, emptied, fresh}
 use Rattle.block.specs.Search.{lookInto}
 use Rattle.machine.specs.Turn.{clearSlot}
+use Rattle.shape_kept.proofs.Words.{length-fill-slot}
 use Rattle.ledger.specs.Paint.{Piece, piece, InPieces, strikePiece, SoundBlock}
 use Rattle.ledger.proofs.SoundBlock.{mark-sound, release-sound, shrink-sound, emptied-sound, fresh-sound, tight-sound}
 
 -- the words of a slot that was filled
 filled-slot : (w s : ℕ) (ws : List ℕ) (i n v : ℕ) → (s + 1) * w ≤ length ws → slotOf w s (fillSlot w s ws i n v) ≡ filled (slotOf w s ws) i n v
 filled-slot w s ws i n v h = slot-own w s ws (filled (slotOf w s ws) i n v) h (length-filled (slotOf w s ws) i n v ∙ length-slot w s ws h)
-
-length-fill-slot : (w s : ℕ) (ws : List ℕ) (i n v : ℕ) → (s + 1) * w ≤ length ws → length (fillSlot w s ws i n v) ≡ length ws
-length-fill-slot w s ws i n v h =
-    length-put-slot w s ws (filled (slotOf w s ws) i n v) h (length-filled (slotOf w s ws) i n v ∙ length-slot w s ws h)
 
 -- the words of a slot that was cleared
 cleared-slot : (w s : ℕ) (ws : List ℕ) → (s + 1) * w ≤ length ws → slotOf w s (clearSlot w s ws) ≡ replicate w 0

@@ -7,9 +7,8 @@ use mathlib.Core.Path.{_≡_, refl, sym, ap, ap₂, subst, subst₂, _∙_}
 use native.Mathlib.Omega.{arith}
 use lib.ListN.{length}
 use borrow.Author.Tests.{le-leb}
-use Rattle.numbers.specs.Units.{unitsOf}
 use Rattle.numbers.proofs.Bools.{picked}
-use Rattle.numbers.proofs.Units.{units-hold}
+use Rattle.numbers.proofs.Units.{units-some}
 use Rattle.runs.specs.Window.{FreeAt}
 use Rattle.slots.specs.Slots.{slotOf}
 use Rattle.sizes.proofs.Pools.{pool-below}
@@ -60,14 +59,6 @@ kept-alike s (suc n) =
     let ih = kept-alike s n in
     picked (Alike s) (oldest s n) (keep (kept s n) (blockAt s n)) (kept s n) (λ e. (ih .0, ih .1, ih .2, ih .3)) (λ e. ih)
 
--- units of some bytes
-pub units-some : (size g : ℕ) → 0 < g → (size ≡ 0 → ⊥) → 0 < unitsOf size g
-units-some size g pos ne = go (unitsOf size g) (units-hold size g pos)
-  where
-    go : (n : ℕ) → size ≤ n * g → 0 < n
-    go zero h = absurd (ne (omega arith))
-    go (suc n) h = omega arith
-
 module _ (s : State) (u t : List ℕ) (l : List Span) (o : Sound s u t l) (z : Sized s) where
   abbrev st : Stands (s .granularity) (s .w) (s .slots) (s .count) (s .blocks) (length u) (length t)
   st = stands s u t l o (z .blocks)
@@ -102,7 +93,7 @@ module _ (s : State) (u t : List ℕ) (l : List Span) (o : Sound s u t l) (z : S
       let q = held-entry s u t l o (z .blocks) a j i e (k .holds) in
       let pos : 0 < unitOf s (blockAt s j) = omega (arith, unit-is s u t l o (z .blocks) j (q .0), st .unit) in
       cut-right s u t l o z a j i e (q .0) (q .1 .0) (q .1 .1) (q .1 .2) (q .1 .3) n
-      (omega (arith, k .units, units-some size (unitOf s (blockAt s j)) pos (λ x. omega (arith, k .asked, x)))) (k .less))
+      (omega (arith, k .units, units-some size (unitOf s (blockAt s j)) pos (k .asked))) (k .less))
 
   -- ---- alloc
   pub search-ready : (p n : ℕ) (pos : 0 < n) → Ready u t l p n pos s

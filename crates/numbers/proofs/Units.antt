@@ -5,6 +5,7 @@ use mathlib.Core.Logic.{_↔_}
 use native.Mathlib.Nat.{div-lt-iff-lt-mul, mul-add-div-right, div-eq-of-lt, div-mul-le-self, lt-div-mul-add, div-add-mod', mod-lt, add-zero}
 use native.Mathlib.Omega.{arith}
 use Rattle.numbers.specs.Units.{unitsOf, bytesOf}
+use Rattle.numbers.proofs.Split.{by-eq}
 
 -- whole units come back as they were
 pub units-exact : (n unit : ℕ) → 0 < unit → unitsOf (bytesOf n unit) unit ≡ n
@@ -17,6 +18,11 @@ units-hold size unit h = omega (arith, lt-div-mul-add {a = size + (unit - 1)} h)
 
 pub units-tight : (size unit : ℕ) → 0 < unit → bytesOf (unitsOf size unit) unit < size + unit
 units-tight size unit h = omega (arith, div-mul-le-self (size + (unit - 1)) unit)
+
+-- a byte takes a unit
+pub units-some : (size unit : ℕ) → 0 < unit → 0 < size → 0 < unitsOf size unit
+units-some size unit h l =
+    by-eq (unitsOf size unit) 0 (λ e. absurd (omega (arith, units-hold size unit h, ap (λ (n : ℕ). bytesOf n unit) e))) (λ ne. omega (arith, ne))
 
 -- a size takes at most n units exactly if n units hold it
 pub units-le : (size unit n : ℕ) → 0 < unit → (unitsOf size unit < n + 1) ↔ (size ≤ bytesOf n unit)

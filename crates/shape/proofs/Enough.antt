@@ -1,8 +1,8 @@
 -- Plain facts that are enough for a state that is not BadShape. Assumes nothing.
 use Prim.Native.Nat.{ℕ, _+_, _*_, _%_, _^_, _<_}
 use mathlib.Core.Path.{_≡_, refl, sym, ap, _∙_}
-use mathlib.Core.Bool.{Bool, true, false, not, _||_}
-use mathlib.Core.Logic.{_⊎_, ⊎-elim}
+use mathlib.Core.Bool.{Bool, true, false, not}
+use mathlib.Core.Logic.{⊎-elim}
 use native.Mathlib.Omega.{arith}
 use lib.Dec.{leb, eqb}
 use borrow.Author.Tests.{lt-ltb, le-leb, eq-eqb, ne-eqb}
@@ -11,7 +11,7 @@ use Rattle.numbers.proofs.Split.{by-le}
 use Rattle.numbers.specs.Pick.{pick}
 use Rattle.block.specs.declared.Block.{Block}
 use Rattle.sizes.specs.declared.Pool.{Pool}
-use Rattle.sizes.specs.Limits.{isGranularity}
+use Rattle.sizes.proofs.InForce.{granularity-listed}
 use Rattle.state.specs.declared.State.{State}
 use Rattle.state.specs.Table.{blockAt, poolAt, all, sum}
 use Rattle.state.specs.Shape.{isEmpty, emptiesOf, arenaOk, numbersOk, zeroOk, goodShape}
@@ -28,16 +28,6 @@ use Rattle.shape.proofs.Whole.{whole-good}
 not-zero-test : (n : ℕ) → 0 < n → not (eqb n 0) ≡ true
 not-zero-test n h = not-of-false (eqb n 0) (ne-eqb n 0 (λ e. omega arith))
 
-listed-test : (g : ℕ) → (g ≡ 64) ⊎ ((g ≡ 128) ⊎ (g ≡ 256)) → isGranularity g ≡ true
-unfolding isGranularity
-listed-test g h =
-    ⊎-elim
-    (λ e. or-left (eqb g 64 || eqb g 128) (eqb g 256) (or-left (eqb g 64) (eqb g 128) (eq-eqb g 64 e)))
-    (λ r. ⊎-elim
-    (λ e. or-left (eqb g 64 || eqb g 128) (eqb g 256) (or-right (eqb g 64) (eqb g 128) (eq-eqb g 128 e)))
-    (λ e. or-right (eqb g 64 || eqb g 128) (eqb g 256) (eq-eqb g 256 e)) r)
-    h
-
 arena-test : (s : State) → Headed s → arenaOk (s .arena) (s .length) ≡ true
 arena-test s h =
     and-both _ _ (not-zero-test (s .arena) (h .arena-low))
@@ -49,7 +39,7 @@ arena-test s h =
 numbers-test : (s : State) → Headed s → numbersOk s ≡ true
 numbers-test s h =
     and-both _ _ (h .size-good)
-    (and-both _ _ (listed-test (s .granularity) (h .g-listed))
+    (and-both _ _ (granularity-listed (s .granularity) (h .g-listed))
     (and-both _ _
     (⊎-elim (λ e. or-left (eqb (s .poolcount) 1) (eqb (s .poolcount) 3) (eq-eqb (s .poolcount) 1 e)) (λ e. or-right (eqb (s .poolcount) 1) (eqb (s .poolcount) 3) (eq-eqb (s .poolcount) 3 e)) (h .pools-listed))
     (and-both _ _ (le-leb 1 (s .w) (h .w-low))

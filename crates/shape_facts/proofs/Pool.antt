@@ -1,8 +1,7 @@
 -- A rounded size in its pool: its units, what the search asks and leaves, and a new block's size. Assumes nothing.
 use Prim.Native.Nat.{ℕ, zero, suc, _-_, _*_, _%_, _^_, _≤_, _<_}
-use mathlib.Core.Bool.{Bool, true, _&&_}
+use mathlib.Core.Bool.{Bool, _&&_}
 use mathlib.Core.List.{List}
-use mathlib.Core.Logic.{_⊎_, ⊎-elim}
 use mathlib.Core.Path.{_≡_, refl, ap, ap₂, _∙_}
 use native.Mathlib.Nat.{mul-le-mul, div-add-mod'}
 use native.Mathlib.Omega.{arith}
@@ -13,7 +12,6 @@ use Rattle.numbers.specs.Units.{unitsOf}
 use Rattle.numbers.proofs.Units.{units-whole}
 use Rattle.block.specs.Record.{Placed}
 use Rattle.sizes.specs.declared.Pool.{Pool}
-use Rattle.sizes.specs.Limits.{isGranularity}
 use Rattle.sizes.specs.Sizes.{idealSize}
 use Rattle.sizes.specs.Pools.{poolOf, freshPool}
 use Rattle.sizes.proofs.Pools.{pool-below}
@@ -31,10 +29,6 @@ use Rattle.shape_facts.proofs.Facts.{count-64, unit-g, placed}
 use Rattle.shape_facts.proofs.Room.{pool-small, live-small}
 use Rattle.shape_facts.proofs.Search.{Fits}
 use Rattle.shape_facts.specs.Ready.{Markable, Makes, Allocates}
-
-pub g-good : (g : ℕ) → (g ≡ 64) ⊎ ((g ≡ 128) ⊎ (g ≡ 256)) → isGranularity g ≡ true
-unfolding isGranularity
-g-good g l = ⊎-elim (λ e. rw e) (⊎-elim (λ e. rw e) (λ e. rw e)) l
 
 module _ (s : State) (u t bytes : ℕ) (m : Allocates s u t bytes) where
   abbrev f : Shaped s u t

@@ -1,6 +1,6 @@
 -- A new block enters a state of good shape: there is room in the table, its slot and place are free, and the sums stay in range. Assumes nothing.
 use Prim.Native.Nat.{ℕ, _+_, _/_, _≤_, _<_}
-use mathlib.Core.Bool.{Bool, true, false, not}
+use mathlib.Core.Bool.{true, not}
 use mathlib.Core.List.{List}
 use mathlib.Core.Path.{_≡_, sym, ap, subst}
 use native.Mathlib.Omega.{arith}
@@ -22,6 +22,7 @@ use Rattle.state.proofs.Tests.{all-at, sum-bound}
 use Rattle.state.proofs.Find.{Least, least-of}
 use Rattle.shape.specs.Shaped.{Shaped}
 use Rattle.shape.proofs.Pigeon.{each-once, place}
+use Rattle.shape.proofs.Sums.{one-le, only-le}
 use Rattle.table.specs.Changeable.{Insertable}
 use Rattle.shape_facts.proofs.Facts.{count-64}
 
@@ -54,14 +55,6 @@ module _ (s : State) (u t : ℕ) (f : Shaped s u t) where
       (λ g. g)
 
   -- a pool's sums are small
-  only-le : (b : Bool) (n m : ℕ) → n ≤ m → only b n ≤ m
-  only-le true n m h = h
-  only-le false n m h = omega arith
-
-  one-le : (b : Bool) → one b ≤ 1
-  one-le true = omega arith
-  one-le false = omega arith
-
   pub pool-small : (p : ℕ) → p < 3 → (poolAt s p .blocks ≤ 64) × (poolAt s p .area ≤ 33554432) × (poolAt s p .used ≤ 33554432)
   pool-small p h =
       let c = count-64 s u t f in

@@ -16,7 +16,7 @@ use Rattle.block.specs.declared.Block.{Block}
 use Rattle.block.specs.Marking.{fresh, marked}
 use Rattle.sizes.specs.declared.Pool.{Pool}
 use Rattle.sizes.specs.Limits.{isGranularity}
-use Rattle.sizes.proofs.InForce.{granularity-is, granularity-word, base-size-divides}
+use Rattle.sizes.proofs.InForce.{granularity-is, granularity-word, base-size-divides, granularity-listed}
 use Rattle.sizes.proofs.Sizes.{ideal-words}
 use Rattle.state.specs.declared.State.{State}
 use Rattle.state.specs.declared.Found.{Found}
@@ -33,7 +33,7 @@ use Rattle.shape.proofs.Address.{Apart, apart-is}
 use Rattle.shape_facts.proofs.Facts.{unit-g}
 use Rattle.shape_facts.proofs.Room.{slot-is, place-in, room-left}
 use Rattle.shape_facts.specs.Ready.{Makeable}
-use Rattle.shape_facts.proofs.Pool.{g-good, newest-asked, new-ready}
+use Rattle.shape_facts.proofs.Pool.{newest-asked, new-ready}
 use Rattle.shape_facts.proofs.New.{makeable}
 use Rattle.machine.specs.Turn.{putBlock, putPool, withCounts}
 use Rattle.machine.specs.Alloc.{newSize, allocMade}
@@ -64,7 +64,7 @@ place-apart s b e i l =
 -- ---- 32 units divide a new block's size
 module _ (s : State) (v w : ℕ) (f : Shaped s v w) where
   good : isGranularity (s .granularity) ≡ true
-  good = g-good (s .granularity) (f .head .g-listed)
+  good = granularity-listed (s .granularity) (f .head .g-listed)
 
   newest-whole : (p : ℕ) → newestSize s p % (32 * s .granularity) ≡ 0
   newest-whole p = go (latest (s .count) (λ i. eqb (blockAt s i .pool) p)) (latest-of (s .count) (λ i. eqb (blockAt s i .pool) p))

@@ -11,6 +11,7 @@ use Rattle.block.specs.declared.Block.{Block}
 use Rattle.block.specs.Record.{emptyFlag, dirtyFlag, isOn, on, off, withNumbers}
 use Rattle.block.specs.Marking.{moved, marked, emptied, widened, released}
 use Rattle.block.proofs.LiesAs.{LiesAs}
+use Rattle.block.proofs.Kept.{moved-le}
 use Rattle.state.specs.declared.State.{State}
 use Rattle.state.specs.Shape.{isEmpty}
 use Rattle.shape.specs.Facts.{ShapedBlockIn}
@@ -123,10 +124,6 @@ module _ (s : State) (b : Block) (q : Bare s b) (flags used start end largest : 
   }
 
 -- ---- marking
-moved-le : (x own other top : ℕ) → x ≤ top → other ≤ top → moved x own other ≤ top
-unfolding moved
-moved-le x own other top h g = picked (λ (n : ℕ). n ≤ top) (eqb x own) other x (λ e. g) (λ e. h)
-
 pub marked-changed : (s : State) (b : Block) → Bare s b → (i e : ℕ) → i < e → e ≤ b .area → b .used + (e - i) ≤ b .area → Changed s b (marked b i e) (b .used + (e - i)) false
 unfolding marked
 marked-changed s b q i e h l room =

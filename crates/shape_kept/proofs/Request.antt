@@ -10,7 +10,7 @@ use lib.Pow.{pow-pos, pow-mono}
 use Rattle.numbers.specs.Align.{alignUp}
 use Rattle.numbers.proofs.Align.{up-divides}
 use Rattle.sizes.specs.Limits.{isGranularity}
-use Rattle.sizes.proofs.InForce.{granularity-is}
+use Rattle.sizes.proofs.InForce.{granularity-is, granularity-listed}
 use Rattle.sizes.proofs.Sizes.{rounded-is}
 use Rattle.state.specs.declared.State.{State}
 use Rattle.shape.specs.Shaped.{Shaped}
@@ -19,7 +19,7 @@ use Rattle.machine.specs.Alloc.{poolFor, unitsFor, searchFor}
 use Rattle.machine.proofs.Cases.{Seeks}
 use Rattle.shape_facts.proofs.Search.{Left, search-left}
 use Rattle.shape_facts.specs.Ready.{Allocates}
-use Rattle.shape_facts.proofs.Pool.{g-good, some-units, pool-in}
+use Rattle.shape_facts.proofs.Pool.{some-units, pool-in}
 use Rattle.shape_kept.specs.Sized.{Sized}
 
 -- rounding up gives a multiple, also where it wraps
@@ -42,7 +42,7 @@ module _ (s : State) (u t : List ℕ) (size bytes : ℕ) (k : Seeks s u t size b
         shaped = seeks-shaped;
         some = a .some;
         most = a .small;
-        whole = ap (λ (n : ℕ). n % s .granularity) (a .is) ∙ up-whole size (s .granularity) (g-good (s .granularity) (seeks-shaped .head .g-listed));
+        whole = ap (λ (n : ℕ). n % s .granularity) (a .is) ∙ up-whole size (s .granularity) (granularity-listed (s .granularity) (seeks-shaped .head .g-listed));
       }
 
   pub seeks-some : 0 < unitsFor s bytes

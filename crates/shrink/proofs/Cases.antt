@@ -2,12 +2,12 @@
 use Prim.Native.Nat.{ℕ, _-_, _≤_, _<_}
 use mathlib.Core.Bool.{true, false}
 use mathlib.Core.List.{List}
-use mathlib.Core.Path.{_≡_, ap}
+use mathlib.Core.Path.{_≡_}
 use native.Mathlib.Omega.{arith}
 use lib.Dec.{ltb, eqb}
 use Rattle.numbers.specs.Units.{unitsOf, bytesOf}
-use Rattle.numbers.proofs.Split.{by-le, by-eq}
-use Rattle.numbers.proofs.Units.{units-hold, units-le}
+use Rattle.numbers.proofs.Split.{by-le}
+use Rattle.numbers.proofs.Units.{units-le}
 use Rattle.state.specs.declared.State.{State}
 use Rattle.state.specs.declared.Held.the-variants.{Range}
 use Rattle.state.specs.declared.Refusal.the-variants.{InvalidState, Damaged}
@@ -24,11 +24,6 @@ module _ (size unit : ℕ) (some : 0 < unit) where
 
   pub units-within : (n : ℕ) → size ≤ bytesOf n unit → unitsOf size unit ≤ n
   units-within n l = omega (arith, units-le size unit n some .1 l)
-
-  -- a byte takes a unit
-  pub units-some : 0 < size → 0 < unitsOf size unit
-  units-some l =
-      by-eq (unitsOf size unit) 0 (λ e. absurd (omega (arith, units-hold size unit some, ap (λ (n : ℕ). bytesOf n unit) e))) (λ ne. omega (arith, ne))
 
 -- ---- a span, by the units that it is to keep
 module _ (s : State) (u t : List ℕ) (a j i e n : ℕ) where

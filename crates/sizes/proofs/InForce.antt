@@ -2,6 +2,7 @@
 use Prim.Native.Nat.{ℕ, _+_, _-_, _*_, _%_, _^_, _≤_}
 use mathlib.Core.Path.{_≡_, refl, sym, ap, _∙_}
 use mathlib.Core.Bool.{true, _&&_}
+use mathlib.Core.Logic.{_⊎_, ⊎-elim}
 use native.Mathlib.Nat.{mul-mod-left}
 use native.Mathlib.Omega.{arith}
 use lib.Dec.{leb}
@@ -32,6 +33,10 @@ granularity-is g h =
     }))
 
 -- 32 of these units are a power of two
+pub granularity-listed : (g : ℕ) → (g ≡ 64) ⊎ ((g ≡ 128) ⊎ (g ≡ 256)) → isGranularity g ≡ true
+unfolding isGranularity
+granularity-listed g l = ⊎-elim (λ e. rw e) (⊎-elim (λ e. rw e) (λ e. rw e)) l
+
 pub granularity-word : (g : ℕ) → (h : isGranularity g ≡ true) → 32 * g ≡ 2 ^ (5 + granularity-is g h .exponent)
 granularity-word g h =
     let r = granularity-is g h in

@@ -8,6 +8,7 @@ use lib.ListN.{length}
 use Rattle.sizes.specs.declared.Rounded.{Rounded}
 use Rattle.sizes.specs.Sizes.{rounded}
 use Rattle.sizes.proofs.Sizes.{rounded-to-granularity}
+use Rattle.sizes.proofs.InForce.{granularity-listed}
 use Rattle.state.specs.declared.Outcome.{Outcome}
 use Rattle.state.specs.declared.Refusal.{Refusal}
 use Rattle.state.specs.Shape.{goodShape}
@@ -15,7 +16,6 @@ use Rattle.shape.specs.Shaped.{Shaped}
 use Rattle.shape.proofs.Shaped.{shaped-is}
 use Rattle.machine.specs.Turn.{turn, refuse}
 use Rattle.machine.specs.Alloc.{allocRounded, allocTurn}
-use Rattle.shape_facts.proofs.Pool.{g-good}
 use borrow.Author.Needs.{needs}
 use Rattle.alloc.proofs.alloc.Statement.{statement}
 use Rattle.alloc.proofs.alloc.Tie as tie
@@ -47,7 +47,7 @@ alloc-rounded-requires : tie.Need-alloc-rounded-requires
 alloc-rounded-requires c κs =
     let a = c .before .before .before .before .before .before .before .before .before .before .args in
     let f = shaped (c .before .before .before .before .before .before) in
-    let q = rounded-to-granularity (a .size) (a .s .granularity) (c .before .before .before .rounded .given .0 .0) (g-good (a .s .granularity) (f .head .g-listed)) (c .before .before .before .before .before .before .before .before .before .before .good .1 .1 .1 .0 .1) (sym (c .before .before .before .before .before .round-size .ensures) ∙ c .before .before .before .rounded .given .1) in
+    let q = rounded-to-granularity (a .size) (a .s .granularity) (c .before .before .before .rounded .given .0 .0) (granularity-listed (a .s .granularity) (f .head .g-listed)) (c .before .before .before .before .before .before .before .before .before .before .good .1 .1 .1 .0 .1) (sym (c .before .before .before .before .before .round-size .ensures) ∙ c .before .before .before .rounded .given .1) in
     record { shaped = f; some = q .some; most = q .small; whole = q .whole }
 
 returns-2 : tie.Need-returns-2

@@ -7,6 +7,7 @@ use lib.ListN.{length}
 use Rattle.numbers.specs.Units.{unitsOf}
 use Rattle.sizes.specs.Pools.{poolOf}
 use Rattle.sizes.specs.Sizes.{idealSize}
+use Rattle.sizes.proofs.InForce.{granularity-listed}
 use Rattle.state.specs.declared.Searched.{Searched}
 use Rattle.state.specs.Table.{blockAt, poolAt}
 use Rattle.state.specs.Find.{newestSize}
@@ -15,7 +16,7 @@ use Rattle.machine.specs.Alloc.{searchPool, allocMarked, allocNew, allocSearche
 use Rattle.shape_facts.proofs.Facts.{count-64}
 use Rattle.shape_facts.proofs.Search.{Fits, Left, Place, search-left}
 use Rattle.shape_facts.specs.Ready.{Makes}
-use Rattle.shape_facts.proofs.Pool.{units-kept, g-good, pool-in, unit-some, bytes-in, whole, some-units, looked-into, hit-ready, newest-asked, new-ready}
+use Rattle.shape_facts.proofs.Pool.{units-kept, pool-in, unit-some, bytes-in, whole, some-units, looked-into, hit-ready, newest-asked, new-ready}
 use borrow.Author.Needs.{needs}
 use Rattle.alloc.proofs.alloc_rounded.Statement.{statement}
 use Rattle.alloc.proofs.alloc_rounded.Tie as tie
@@ -48,7 +49,7 @@ left c =
     (search-left (a .used .now) (length (a .stop .now)) p n pos (a .t1) (c .before .before .before .before .before .before .before .pre .shaped) (blocks-64 (a .t1) _ (c .before .before .before .before .before .before .before .good .0)))
 
 size-to-pool-id-requires : tie.Need-size-to-pool-id-requires
-size-to-pool-id-requires c κs = let m = c .before .before .pre in (omega (arith, m .most), g-good (c .before .before .args .t1 .granularity) (m .shaped .head .g-listed), m .shaped .head .pools-listed)
+size-to-pool-id-requires c κs = let m = c .before .before .pre in (omega (arith, m .most), granularity-listed (c .before .before .args .t1 .granularity) (m .shaped .head .g-listed), m .shaped .head .pools-listed)
 
 mul-q : tie.Need-mul-q
 mul-q c = let a = c .before .before .before .args in omega (arith, c .size-to-pool-id .ensures, pool-in (a .t1) (length (a .used .now)) (length (a .stop .now)) (a .bytes) (c .before .before .before .pre))

@@ -1,4 +1,4 @@
--- An offset that is no multiple of the unit is `NoSpan` in both. Otherwise rounding up is dividing (`units-even`), and the address lies in
+-- An offset that is no multiple of the unit is `NoSpan` in both. Otherwise rounding up is dividing (`units-whole`), and the address lies in
 -- the block, so the unit lies in the area. Assumes nothing.
 use native.Mathlib.Nat.{div-lt-iff-lt-mul, mul-le-mul-right}
 use Prim.Native.Nat.{ℕ, _+_, _-_, _*_, _/_, _%_, _^_, _≤_, _<_}

@@ -13,8 +13,9 @@ use Rattle.state.specs.Table.{blockAt}
 use Rattle.machine.specs.Turn.{turn, unitOf, span}
 use Rattle.machine.specs.Shrink.{shrinkUnits}
 use Rattle.shape_facts.proofs.Facts.{pool-3, unit-g, bytes-fit, spannable}
-use Rattle.shrink.proofs.Cases.{units-over, units-within, units-some, more-units, same-units, fewer-units}
+use Rattle.shrink.proofs.Cases.{units-over, units-within, more-units, same-units, fewer-units}
 use borrow.Author.Needs.{needs}
+use Rattle.numbers.proofs.Units.{units-some}
 use Rattle.shrink.proofs.cut.shrink_span.Statement.{statement}
 use Rattle.shrink.proofs.cut.shrink_span.Tie as tie
 
