@@ -1,4 +1,6 @@
 // The call alloc.
+#![tactic(auto)]
+
 ghost use Rattle.std.specs.Prelude.{◌≡◌, length, eqb};
 ghost use Rattle.numbers.specs.Pick.{pick};
 ghost use Rattle.sizes.specs.declared.Rounded.TheVariants.{To};

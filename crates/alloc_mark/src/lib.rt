@@ -1,4 +1,6 @@
 // Grants a span in a block that has a place for it.
+#![tactic(auto)]
+
 ghost use Rattle.std.specs.Prelude.{◌≡◌, ◌+◌, ◌-◌, ◌*◌, ◌^◌, ◌≤◌, ◌<◌, length};
 ghost use Rattle.numbers.specs.Units.{bytes_of};
 ghost use Rattle.sizes.specs.Limits.{slot_limit};

@@ -1,4 +1,6 @@
 // Makes a new block for a pool, with a span in it.
+#![tactic(auto)]
+
 ghost use Rattle.std.specs.Prelude.{◌≡◌, length};
 ghost use Rattle.state.specs.Change.{inserted};
 ghost use Rattle.machine.specs.Turn.{turn_of, clear_slot};

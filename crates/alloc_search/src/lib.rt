@@ -1,4 +1,6 @@
 // Searches a pool's blocks, oldest first. A block searched in vain keeps its tightened window.
+#![tactic(auto)]
+
 ghost use Rattle.std.specs.Prelude.{◌≡◌, ℕ, ◌<◌, ◌≤◌, eqb, length};
 ghost use Rattle.numbers.specs.Pick.{pick};
 ghost use Rattle.sizes.specs.Limits.{slot_limit};

@@ -1,5 +1,7 @@
 // Reads and writes single bits in lent 32-bit words, as `bit_vector_*` of the Rust's util/mod.rs.
 // Bit k of a map is bit k % 32 of word k / 32.
+#![tactic(auto)]
+
 pub mod fill;
 pub mod index;
 

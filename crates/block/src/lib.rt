@@ -1,4 +1,6 @@
 // One block's record, and how marking changes it. `JitAllocatorBlock` in the Rust.
+#![tactic(auto)]
+
 pub mod look;
 pub mod mark;
 

@@ -1,4 +1,6 @@
 // Makes the call that a trace's record asks for.
+#![tactic(auto)]
+
 ghost use Rattle.std.specs.Prelude.{◌≡◌};
 ghost use Rattle.machine.specs.Turn.{turn_of};
 ghost use Rattle.machine.specs.Machine.{create, step};

@@ -1,4 +1,6 @@
 // The call create.
+#![tactic(auto)]
+
 ghost use Rattle.std.specs.Prelude.{◌≡◌, ◌<◌, ◌≤◌, length};
 ghost use Rattle.state.specs.declared.Refusal.TheVariants.{InvalidArgument};
 ghost use Rattle.state.specs.declared.Answer.TheVariants.{Created};

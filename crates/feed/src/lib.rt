@@ -1,4 +1,6 @@
 // Feeds a trace from a file or from standard input to the trace library, one buffer at a time. The programs that play traces share this.
+#![tactic(auto)]
+
 ghost use Rattle.std.specs.Prelude.{◌≡◌, ◌-◌, ◌≤◌, length};
 
 use state::State;

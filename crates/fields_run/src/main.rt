@@ -1,5 +1,7 @@
 // Plays a trace from standard input, as the trace program does, and writes the state after each call's line, in the form of
 // oracle/README.md ("Formats"), so that every field of every block can be compared with the original's. It ignores its argument.
+#![tactic(auto)]
+
 use block::Block;
 use feed::Feed;
 use sizes::Pool;

@@ -1,5 +1,7 @@
 // Plays a trace from standard input, lends each call an image of the arena and tries a write into a span after it, in the form of
 // oracle/README.md ("Filled mode"), so that every byte of the image can be compared with the original's.
+#![tactic(auto)]
+
 ghost use Rattle.std.specs.Prelude.{◌≡◌, ◌<◌, ◌≤◌, length};
 
 use records::{Call, Record};

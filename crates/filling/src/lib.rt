@@ -1,4 +1,6 @@
 // The calls with an image of the arena lent to them: each fills with a pattern the bytes that it leaves unused.
+#![tactic(auto)]
+
 pub mod copy;
 pub mod fill;
 

@@ -1,4 +1,6 @@
 // Fills bytes of the arena's image with a pattern.
+#![tactic(auto)]
+
 ghost use Rattle.std.specs.Prelude.{◌≡◌, ◌+◌, ◌≤◌, length};
 ghost use Rattle.image.specs.Image.{pattern_byte, filled_at};
 

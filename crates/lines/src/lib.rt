@@ -1,5 +1,7 @@
 // Writes document 01's lines into lent bytes from an index on: an answer's line, and the last line of a trace. Each function returns the
 // index after what it wrote.
+#![tactic(auto)]
+
 ghost use Rattle.std.specs.Prelude.{◌≡◌, [], ◌∷◌, ◌+◌, ◌≤◌, length};
 ghost use Rattle.machine.specs.Turn.{number};
 ghost use Rattle.text.specs.Line.{line};

@@ -1,5 +1,7 @@
 // Runs `bits`, `slots` and `runs` on vectors, over maps of a few words. For single bits and ranges, `stdout` has what the Rust's functions
 // answer; for the rest, what a map kept bit by bit and a search unit by unit find.
+#![tactic(auto)]
+
 ghost use Rattle.std.specs.Prelude.{◌≡◌, length};
 
 fn number(n: u64) {

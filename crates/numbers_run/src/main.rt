@@ -1,5 +1,7 @@
 // Runs `numbers` and `sizes` on vectors and on the edge figures that need no call. `stdout` has what the Rust's functions answer; for units
 // and bytes, what plain arithmetic gives; for sizes, what document 01's rules give by plain arithmetic.
+#![tactic(auto)]
+
 ghost use Rattle.std.specs.Prelude.{◌≡◌, ◌*◌, ◌≤◌, ◌<◌, ◌^◌};
 
 fn number(n: u64) {

@@ -1,5 +1,7 @@
 // Draws what a trace leaves: plays it as the trace program does, but writes no lines. For each block, oldest first, it writes the numbers
 // and the units in rows of 64: `#` where a span starts, `=` inside one, `.` where a unit is free. It only counts rows that are all alike.
+#![tactic(auto)]
+
 use block::Block;
 use feed::Feed;
 use state::State;

@@ -1,4 +1,6 @@
 // The call query.
+#![tactic(auto)]
+
 ghost use Rattle.std.specs.Prelude.{◌≡◌};
 ghost use Rattle.machine.specs.Span.{query_turn};
 

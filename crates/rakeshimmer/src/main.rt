@@ -1,4 +1,5 @@
 // The trace program: plays the trace of the file that its argument names, or of standard input, and writes document 01's lines.
+#![tactic(auto)]
 
 fn play_all(file: i32, used: &mut [u32], stop: &mut [u32], buffer: &mut [u8], out: &mut [u8]) {
     let mut f = feed::start();

@@ -1,4 +1,6 @@
 // Reads document 01's records from lent bytes.
+#![tactic(auto)]
+
 ghost use Rattle.std.specs.Prelude.{◌≡◌, ◌+◌, ◌≤◌, ◌<◌, length};
 ghost use Rattle.records.specs.Bytes.{u16_at, u32_at, u64_at};
 ghost use Rattle.records.specs.Records.{payload_of, Holds, asked_of, call_of, record_of};

@@ -1,4 +1,6 @@
 // The call release.
+#![tactic(auto)]
+
 ghost use Rattle.std.specs.Prelude.{◌≡◌, ◌-◌, ◌<◌, ◌≤◌, length};
 ghost use Rattle.block.specs.Record.{SpanIn};
 ghost use Rattle.block.specs.Marking.{mark_released};

@@ -1,4 +1,6 @@
 // After units were freed: drops the block, or keeps it as its pool's empty one.
+#![tactic(auto)]
+
 ghost use Rattle.std.specs.Prelude.{◌≡◌, ◌<◌, ◌≤◌, length};
 ghost use Rattle.sizes.specs.Limits.{slot_limit};
 ghost use Rattle.state.specs.declared.Answer.{Answer};

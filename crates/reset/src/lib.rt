@@ -1,4 +1,6 @@
 // The calls soft reset and hard reset.
+#![tactic(auto)]
+
 pub mod keep;
 
 ghost use Rattle.std.specs.Prelude.{◌≡◌, true, false, length};

@@ -1,5 +1,7 @@
 // Walks over the runs of free units of a used map within a window, as the Rust's `BitVectorRangeIterator`: its types and its start. A
 // window is the units from `start` up to `end`, and is empty if `end` is not above `start`. Runs are clipped at both ends.
+#![tactic(auto)]
+
 pub mod ranges;
 pub mod walker;
 pub mod window;

@@ -1,5 +1,7 @@
 // Tests a whole record for refusal 5, BadShape. The definition compares every two blocks; the code walks the blocks once by age and once
 // by address. Whatever the record holds, no sum wraps and no index is out of range.
+#![tactic(auto)]
+
 pub mod blocks;
 pub mod creation;
 pub mod pools;

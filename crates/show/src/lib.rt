@@ -1,4 +1,6 @@
 // Writes a word and numbers as one line to standard output, and reads a slot's words. The programs that show a state share this.
+#![tactic(auto)]
+
 ghost use Rattle.std.specs.Prelude.{◌≡◌, ◌*◌, ◌≤◌, ◌<◌, get_or};
 
 // ---- lines

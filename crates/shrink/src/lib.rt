@@ -1,4 +1,6 @@
 // The call shrink.
+#![tactic(auto)]
+
 pub mod cut;
 
 ghost use Rattle.std.specs.Prelude.{◌≡◌};

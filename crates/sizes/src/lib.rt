@@ -1,4 +1,6 @@
 // Rounds a request's size, finds its pool, and sizes a new block.
+#![tactic(auto)]
+
 pub mod limits;
 
 ghost use Rattle.std.specs.Prelude.{◌≡◌, true, ◌⊎◌, ◌^◌, ◌<◌, ◌≤◌};

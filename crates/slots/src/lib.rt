@@ -1,4 +1,6 @@
 // Reads, marks and clears slots. A map consists of slots of `w` words each, and a block has one slot in each map.
+#![tactic(auto)]
+
 ghost use Rattle.std.specs.Prelude.{◌≡◌, ◌+◌, ◌*◌, ◌^◌, ◌≤◌, ◌<◌, length, replicate};
 ghost use mir.Val.{bool_byte};
 ghost use Rattle.bits.specs.Bits.{filled};

@@ -1,4 +1,6 @@
 // Makes a span from its address and units, and finds out whether a span starts at an address and where it ends.
+#![tactic(auto)]
+
 ghost use Rattle.std.specs.Prelude.{◌≡◌, ◌*◌, ◌^◌, ◌<◌, ◌+◌, ◌-◌, ◌%◌, ◌≤◌, length};
 ghost use Rattle.numbers.specs.Units.{bytes_of};
 ghost use Rattle.sizes.specs.Limits.{slot_limit};

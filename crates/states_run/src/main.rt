@@ -1,6 +1,8 @@
 // Makes the public calls on given states, also on states that no trace reaches. `stdin` has the cases of oracle/states.txt, and `stdout`
 // what the oracle's plain program writes for them (oracle/make-states makes both). oracle/states.py says how a case is laid out and what
 // is written.
+#![tactic(auto)]
+
 ghost use Rattle.std.specs.Prelude.{◌≡◌, length};
 
 use block::Block;

@@ -1,5 +1,7 @@
 // Searches the table: for the block at an address, the lowest free slot, the lowest place in the arena, the newest block of a pool.
 // `insert` and `remove` change it.
+#![tactic(auto)]
+
 pub mod insert;
 pub mod remove;
 

@@ -1,5 +1,7 @@
 // Writes text into lent bytes from an index on: bytes, decimal numbers, and lines of a word, none to three numbers and a line feed. Each
 // function returns the index after what it wrote.
+#![tactic(auto)]
+
 ghost use Rattle.std.specs.Prelude.{[], ◌∷◌, ◌+◌, ◌≤◌, ◌<◌, length};
 ghost use Rattle.text.specs.Decimal.{decimal};
 ghost use Rattle.text.specs.Put.{Puts};

@@ -1,6 +1,8 @@
 // Plays a trace: reads records from lent bytes, makes their calls, and writes document 01's lines into lent bytes. specs/Output.antt says
 // what is written for any bytes at all; proofs/Sessions.antt proves that every way to read a trace in pieces, play them and finish writes
 // it.
+#![tactic(auto)]
+
 ghost use Rattle.std.specs.Prelude.{◌/◌, ◌≤◌, length};
 ghost use Rattle.trace.specs.Play.{Plays, play};
 

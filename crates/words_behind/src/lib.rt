@@ -1,1 +1,2 @@
 // No code: proves that the machine neither reads nor writes words from slots times W on (specs/Behind.antt).
+#![tactic(auto)]
