@@ -10,7 +10,7 @@ ghost use Rattle.block.specs.Marking.{moved, marked, released, shrunk, fresh};
 
 // A block of `area` units from address `base` on. Its bits are in slot `slot` of both maps. `start` and `end` are its search window,
 // and `largest` is the longest free run that a search has seen.
-#[derive(Drop)]
+#[derive(Clone, Copy)]
 pub struct Block {
     pub base: u64,
     pub size: u64,
@@ -44,6 +44,7 @@ fn greater(a: u32, b: u32) -> u32
 }
 
 // Moves a window's edge that equals the span's edge `own` to the span's `other` edge; leaves any other edge.
+#[tactic(auto, unfolding(crate::specs::Marking::moved))]
 fn moved_edge(edge: u32, own: u32, other: u32) -> u32
     ensures { result ≡ moved edge own other }
 {
@@ -126,7 +127,7 @@ pub fn new_block(base: u64, size: u64, pool: usize, slot: usize, area: u32, n: u
 }
 
 // The result of a search in one block: the lowest place; or the block's new record, its window tightened if the search saw a free unit.
-#[derive(Drop)]
+#[derive(Clone, Copy)]
 pub enum Looked {
     Found(u32),
     Missed(Block),

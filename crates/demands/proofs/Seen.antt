@@ -2,7 +2,7 @@
 -- new to the ledger. Assumes nothing.
 use Prim.Native.Nat.{ℕ, ◌<◌}
 use mathlib.Core.List.{List, ◌∷◌}
-use mathlib.Core.Logic.{◌⊎◌, inl, inr, ⊎_elim, ◌↔◌}
+use mathlib.Core.Logic.{inl, inr, ⊎_elim, ◌↔◌}
 use mathlib.Core.Path.{◌≡◌, refl, ap, subst}
 use native.Mathlib.Omega.{arith}
 use Rattle.slots.specs.Slots.{slot_of}

@@ -35,7 +35,8 @@ Leads s u t l (c ∷ cs) = Leads (step s u t c).state (step s u t c).used (step 
 
 leads : {s : State} {u t : List ℕ} {l : List Span} → Reached s u t l → (cs : List Call) → Leads s u t l cs
 leads r [] = r
-leads r (c ∷ cs) = leads (called r c) cs
+leads {s = s} {u = u} {t = t} {l = l} r (c ∷ cs) =
+    let x = step s u t c in leads {s = x.state} {u = x.used} {t = x.stop} {l = enter x.answer l} (called r c) cs
 
 unfoldable pub asked : Asked
 asked = record { size = 65536; granularity = 64; flags = 0; w = 256; arena = 4194304; length = 1048576 }

@@ -40,7 +40,7 @@ pub fn alloc(
     pattern: u32,
     size: u64,
 ) -> Outcome
-    ensures stop_after { turn_of result used.new stop.new ≡ lent_step s used.old stop.old (length image.old) (alloc size) }
+    ensures turn { turn_of result used.new stop.new ≡ lent_step s used.old stop.old (length image.old) (alloc size) }
     ensures image_after { image.new ≡ image_after s used.old stop.old pattern image.old (alloc size) }
 {
     if image.len() as u64 != s.length {
@@ -62,7 +62,7 @@ pub fn release(
     pattern: u32,
     address: u64,
 ) -> Outcome
-    ensures stop_after { turn_of result used.new stop.new ≡ lent_step s used.old stop.old (length image.old) (release address) }
+    ensures turn { turn_of result used.new stop.new ≡ lent_step s used.old stop.old (length image.old) (release address) }
     ensures image_after { image.new ≡ image_after s used.old stop.old pattern image.old (release address) }
 {
     if image.len() as u64 != s.length {
@@ -85,7 +85,7 @@ pub fn shrink(
     address: u64,
     size: u64,
 ) -> Outcome
-    ensures stop_after { turn_of result used.new stop.new ≡ lent_step s used.old stop.old (length image.old) (shrink address size) }
+    ensures turn { turn_of result used.new stop.new ≡ lent_step s used.old stop.old (length image.old) (shrink address size) }
     ensures image_after { image.new ≡ image_after s used.old stop.old pattern image.old (shrink address size) }
 {
     if image.len() as u64 != s.length {
@@ -108,7 +108,7 @@ pub fn hard_reset(
     image: &mut [u8],
     pattern: u32,
 ) -> Outcome
-    ensures stop_after { turn_of result used.new stop.new ≡ lent_step s used.old stop.old (length image.old) hard_reset }
+    ensures turn { turn_of result used.new stop.new ≡ lent_step s used.old stop.old (length image.old) hard_reset }
     ensures image_after { image.new ≡ image_after s used.old stop.old pattern image.old hard_reset }
 {
     if image.len() as u64 != s.length {
@@ -125,7 +125,7 @@ pub fn soft_reset(
     image: &mut [u8],
     pattern: u32,
 ) -> Outcome
-    ensures stop_after { turn_of result used.new stop.new ≡ lent_step s used.old stop.old (length image.old) soft_reset }
+    ensures turn { turn_of result used.new stop.new ≡ lent_step s used.old stop.old (length image.old) soft_reset }
     ensures image_after { image.new ≡ image_after s used.old stop.old pattern image.old soft_reset }
 {
     if image.len() as u64 != s.length {

@@ -14,7 +14,7 @@ use Rattle.block.specs.declared.Block.{Block}
 use Rattle.block.specs.Marking.{emptied}
 use Rattle.state.specs.declared.State.{State}
 use Rattle.state.specs.Table.{block_at}
-use Rattle.state.proofs.Lists.{get_d_replicate}
+use Rattle.state.proofs.Lists.{get_or-replicate}
 use Rattle.shape_facts.proofs.Cleared.{length_cleared}
 use Rattle.machine.specs.Turn.{clear_slot}
 use Rattle.machine.specs.Create.{cleared}
@@ -79,7 +79,7 @@ created_zeros w slots k ws h room =
         let l : i < w = omega (arith, length_slot w k (cleared (slots * w) ws) in_cleared) in
         slot_word w k (cleared (slots * w) ws) i l
         ∙ get_or-append (replicate (slots * w) 0) (drop (slots * w) ws) 0 (k * w + i) (omega (arith, own, length-replicate {A = ℕ} (slots * w) 0))
-        ∙ get_d_replicate (slots * w) 0 (k * w + i) ∙ sym (get_d_replicate w 0 i)
+        ∙ get_or-replicate (slots * w) 0 (k * w + i) ∙ sym (get_or-replicate w 0 i)
 
 -- ---- no span is out: emptied blocks whose slots are zeros, and every other slot clear
 pub emptied_agrees : (g w slots n : ℕ) (bs : List Block) (u t : List ℕ)

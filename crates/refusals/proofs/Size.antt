@@ -7,7 +7,6 @@ use mathlib.Core.Path.{◌≡◌, refl, sym, ap, ap₂, ◌∙◌}
 use native.Mathlib.Omega.{arith}
 use borrow.Author.Tests.{eq-eqb, ne_eqb, lt-ltb, le-ltb, lt-leb}
 use lib.Dec.{leb}
-use lib.ListN.{length}
 use Rattle.numbers.specs.Align.{align_up}
 use Rattle.numbers.specs.Units.{units_of}
 use Rattle.sizes.specs.Sizes.{rounded, ideal_size}

@@ -8,7 +8,7 @@ use native.Mathlib.Numerals.{add-one}
 use native.Mathlib.Omega.{arith}
 use borrow.Author.Tests.{eq-eqb, ne_eqb, not-true, not-false}
 use lib.Dec.{ltb, eqb}
-use lib.ListN.{length, get_or, set, replicate, length-set, get_or-eq_default, get_or-replicate as getD-replicate-in}
+use lib.ListN.{length, get_or, set, replicate, length-set, get_or-eq_default, get_or-replicate as get_or-replicate_in}
 use lib.Seq.{get_or-set_same, get_or-set_other}
 use Rattle.numbers.proofs.Bools.{not_both, and_left, and_fails_right, and_true}
 use Rattle.numbers.proofs.Split.{by_le, by_eq}
@@ -110,7 +110,7 @@ keeping_start s r e = subst (λ (x : State). Keeping s 0 x (replicate 3 false)) 
 })
   where
     fresh_at : (g p : ℕ) → p < 3 → get_or (replicate 3 (fresh_pool g)) p (fresh_pool 0) ≡ fresh_pool g
-    fresh_at g p h = getD-replicate-in 3 p (fresh_pool g) (fresh_pool 0) h
+    fresh_at g p h = get_or-replicate_in 3 p (fresh_pool g) (fresh_pool 0) h
 
 module _ (s : State) (i : ℕ) (r : State) (seen : List Bool) (f : Keepable s) (q : Keeping s i r seen) (h : i < s.count) where
   pool_low : (block_at s i).pool < 3

@@ -3,7 +3,7 @@ use Prim.Native.Nat.{ℕ, ◌+◌, ◌-◌, ◌≤◌, ◌<◌}
 use mathlib.Core.Path.{◌≡◌, refl, ap, ◌∙◌}
 use native.Mathlib.Nat.{zero-add}
 use native.Mathlib.Omega.{arith}
-use lib.ListN.{get_or, get_or-replicate as getD-replicate-in}
+use lib.ListN.{get_or, get_or-replicate as get_or-replicate_in}
 use lib.Seq.{get_or-set_same, get_or-set_other}
 use Rattle.block.specs.declared.Block.{Block}
 use Rattle.sizes.specs.declared.Pool.{Pool}
@@ -122,7 +122,7 @@ module _ (s : State) where
   empty_age k = get_or-replicate 64 0 k
 
   pub empty_pool : (p : ℕ) → p < 3 → pool_at (empty_table s) p ≡ fresh_pool s.granularity
-  empty_pool p h = getD-replicate-in 3 p (fresh_pool s.granularity) (fresh_pool 0) h
+  empty_pool p h = get_or-replicate_in 3 p (fresh_pool s.granularity) (fresh_pool 0) h
 
   pub empty_used : used_sum (empty_table s) 0 ≡ 0
   unfolding sum

@@ -20,7 +20,7 @@ pub const MAX_SIZE: u64 = 2_147_483_647;
 
 // A pool: its unit, how many blocks it has, how many of them are empty, and the sums of their areas and of their used units.
 // `JitAllocatorPool` in the Rust.
-#[derive(Drop)]
+#[derive(Clone, Copy)]
 pub struct Pool {
     pub granularity: u64,
     pub blocks: u32,
@@ -62,7 +62,7 @@ pub fn size_to_pool_id(size: u64, granularity: u64, poolcount: usize) -> usize
 
 // ---- a request, and a new block for it
 
-#[derive(Drop)]
+#[derive(Clone, Copy)]
 pub enum Rounded {
     To(u64),
     Refused(u32),
@@ -91,6 +91,7 @@ pub fn round_size(size: u64, granularity: u64) -> Rounded
 
 // Returns the size of a new block. `newest` is the size of the pool's newest block, or the base size if it has none. The Rust answers 0 if
 // the rounding wraps: that branch is dead, since within these bounds the answer is never below the request (`ideal_holds`).
+#[tactic(auto, unfolding(crate::specs::Sizes::ideal_size))]
 pub fn calculate_ideal_block_size(newest: u64, size: u64) -> u64
     requires { (0 < newest) × (newest ≤ 2 ^ 27) × (size < 2 ^ 32) }
     ensures { result ≡ ideal_size newest size }

@@ -6,6 +6,7 @@ pub const MIN_GRANULARITY: u64 = 64;
 
 pub const MIN_BLOCK_SIZE: u64 = 64 * 1024;
 
+#[tactic(auto, unfolding(crate::specs::Limits::is_granularity))]
 pub fn is_granularity(granularity: u64) -> bool
     ensures { result ≡ is_granularity granularity }
 {

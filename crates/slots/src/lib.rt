@@ -2,10 +2,11 @@
 #![tactic(auto)]
 
 ghost use Rattle.std.specs.Prelude.{◌≡◌, ◌+◌, ◌*◌, ◌^◌, ◌≤◌, ◌<◌, length, replicate};
+ghost use Rattle.std.specs.Borrow.{sem};
 ghost use mir.Val.{bool_byte};
 ghost use Rattle.bits.specs.Bits.{filled};
 ghost use Rattle.slots.specs.Slots.{slot_of, fill_slot, put_slot};
-ghost use Rattle.slots.specs.Back.{GoesBack};
+ghost use Rattle.slots.specs.Back.{LendsPart};
 
 // Lends a slot's words for reading.
 pub fn slot(words: &[u32], slot: usize, w: usize) -> &[u32]
@@ -21,7 +22,7 @@ pub fn slot(words: &[u32], slot: usize, w: usize) -> &[u32]
 pub fn slot_mut(words: &mut [u32], slot: usize, w: usize) -> &mut [u32]
     requires { (slot + 1) * w ≤ length words.old }
     ensures result_value { result.now ≡ slot_of w slot words.old }
-    ensures* back { GoesBack 𝓛 (search) (slot * w) w words.entry result }
+    ensures* back { sem 𝓛 (LendsPart (slot * w) w words.entry result) }
 {
     let a = slot * w;
     let e = a + w;

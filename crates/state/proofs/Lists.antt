@@ -33,13 +33,13 @@ pub record Built {A : Type 0} (n k : ℕ) (f : ℕ → A) (d : A) (xs : List A) 
   pub done : (j : ℕ) → j < k → get_or xs j d ≡ f j
   pub rest : (j : ℕ) → k ≤ j → get_or xs j d ≡ d
 
-pub get_d_replicate : {A : Type 0} (n : ℕ) (d : A) (j : ℕ) → get_or (replicate n d) j d ≡ d
-get_d_replicate zero d j = refl
-get_d_replicate (suc n) d zero = refl
-get_d_replicate (suc n) d (suc j) = get_d_replicate n d j
+pub get_or-replicate : {A : Type 0} (n : ℕ) (d : A) (j : ℕ) → get_or (replicate n d) j d ≡ d
+get_or-replicate zero d j = refl
+get_or-replicate (suc n) d zero = refl
+get_or-replicate (suc n) d (suc j) = get_or-replicate n d j
 
 pub built_none : {A : Type 0} (n : ℕ) (f : ℕ → A) (d : A) → Built n 0 f d (replicate n d)
-built_none n f d = record { size = length-replicate n d; done = λ j h. absurd (not-suc-le-zero h); rest = λ j h. get_d_replicate n d j }
+built_none n f d = record { size = length-replicate n d; done = λ j h. absurd (not-suc-le-zero h); rest = λ j h. get_or-replicate n d j }
 
 pub built_more : {A : Type 0} (n k : ℕ) (f : ℕ → A) (d : A) (xs : List A) (x : A) → Built n k f d xs → k < n → x ≡ f k → Built n (k + 1) f d (set xs k x)
 built_more n k f d xs x b h e = record {

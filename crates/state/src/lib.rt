@@ -15,7 +15,7 @@ pub const SLOT_LIMIT: usize = 64;
 // The most words to a slot.
 pub const MAX_SLOT_WORDS: usize = 16384;
 
-#[derive(Drop)]
+#[derive(Clone, Copy)]
 pub struct State {
     // in force: the base block size, the granularity, the number of pools, and immediate release (no empty block is kept)
     pub size: u64,
@@ -38,14 +38,14 @@ pub struct State {
 }
 
 // What a search of the table finds: a block's age, or a slot.
-#[derive(Drop)]
+#[derive(Clone, Copy)]
 pub enum Found {
     At(usize),
     Nothing,
 }
 
 // A place for a new block in the arena.
-#[derive(Drop)]
+#[derive(Clone, Copy)]
 pub enum Place {
     Base(u64),
     Nowhere,
@@ -90,14 +90,14 @@ pub fn zero_state() -> State
 }
 
 // A piece of memory: its address, and its size in bytes.
-#[derive(Drop)]
+#[derive(Clone, Copy)]
 pub struct Span {
     pub address: u64,
     pub size: u64,
 }
 
 // Document 01's refusals except the trace's own; `number` of machine/specs/Turn.antt has their numbers.
-#[derive(Drop)]
+#[derive(Clone, Copy)]
 pub enum Refusal {
     InvalidArgument,
     TooLarge,
@@ -108,7 +108,7 @@ pub enum Refusal {
 }
 
 // What a call answers. `Created` has the base size, the granularity and the number of pools in force.
-#[derive(Drop)]
+#[derive(Clone, Copy)]
 pub enum Answer {
     Created(u64, u64, usize),
     Granted(Span),
@@ -120,7 +120,7 @@ pub enum Answer {
 }
 
 // What starts at an address of a block: no span; one that has no stop bit; or a span, from its first unit up to its end.
-#[derive(Drop)]
+#[derive(Clone, Copy)]
 pub enum Held {
     NoSpan,
     NoStop,
@@ -128,21 +128,21 @@ pub enum Held {
 }
 
 // A place that a search of a pool found: a block's age and a unit in it.
-#[derive(Drop)]
+#[derive(Clone, Copy)]
 pub enum Hit {
     At(usize, u32),
     Nowhere,
 }
 
 // The result of a search of a pool: the place, and the record with the windows that the search tightened.
-#[derive(Drop)]
+#[derive(Clone, Copy)]
 pub struct Searched {
     pub hit: Hit,
     pub state: State,
 }
 
 // What a call returns; it writes the two maps in place.
-#[derive(Drop)]
+#[derive(Clone, Copy)]
 pub struct Outcome {
     pub answer: Answer,
     pub state: State,
