@@ -1,21 +1,41 @@
 // Feeds a trace from a file or from standard input to the trace library, one buffer at a time. The programs that play traces share this.
 #![tactic(auto)]
 
-ghost use Rattle.std.specs.Prelude.{◌≡◌, ◌-◌, ◌≤◌, length};
+ghost use Rattle.std.specs.Prelude.{◌≡◌, ◌-◌, ◌≤◌, length, IfOk, OnErr};
 
 use state::State;
+use std::env::FillError;
+use std::fs::File;
+use std::io;
+use std::io::{ErrorKind, Read};
+use std::rt::{Env, Stdin};
 use trace::Played;
 
 // Where a trace stands: the state, how many bytes were played (`offset`), how many wait at the front of the buffer, how many the last turn
-// wrote, whether that turn was the last one (`done`), and whether it was because a read failed.
-#[derive(Drop)]
+// wrote, and whether that turn was the last one (`done`).
+#[derive(Clone, Copy)]
 pub struct Feed {
     pub state: State,
     pub offset: u64,
     pub waiting: usize,
     pub written: usize,
     pub done: bool,
-    pub failed: bool,
+}
+
+// Where a trace comes from.
+#[derive(Drop)]
+pub enum Source {
+    File(File),
+    Stdin(Stdin),
+}
+
+impl Read for Source {
+    fn read(&mut self, buffer: &mut [u8]) -> io::Result<usize> {
+        match self {
+            Source::File(file) => file.read(buffer),
+            Source::Stdin(stdin) => stdin.read(buffer),
+        }
+    }
 }
 
 pub fn start() -> Feed
@@ -27,7 +47,6 @@ pub fn start() -> Feed
         waiting: 0,
         written: 0,
         done: false,
-        failed: false,
     }
 }
 
@@ -38,23 +57,19 @@ pub fn map_words() -> [u32; 8192]
     [0; 8192]
 }
 
-// Opens the file that the program's argument names, or takes standard input if there is no argument. If the file can't be opened, it
-// writes a line to standard error and returns a negative number.
-pub fn open() -> i32 {
-    if os::arg_count() < 2 {
-        return libc::STDIN_FILENO;
+// Opens the file that the program's argument names, or takes standard input if there is no argument.
+pub fn open(rt: &HostRuntime) -> io::Result<Source> {
+    let mut path = [0u8; 4096];
+    match rt.arg(1, &mut path) {
+        Ok(length) => {
+            let Ok(name) = str::from_utf8(&path[..length]) else {
+                return Err(io::Error::from(ErrorKind::InvalidData));
+            };
+            Ok(Source::File(File::open(rt, name)?))
+        }
+        Err(FillError::NotPresent) => Ok(Source::Stdin(rt.stdin())),
+        Err(FillError::TooLong) => Err(io::Error::from(ErrorKind::InvalidFilename)),
     }
-    let mut path = io::buffer();
-    let length = os::arg(1, &mut path);
-    if os::errno() != 0 {
-        os::fail(b"the file's name");
-        return -1;
-    }
-    let file = os::open_read(&path[..length]);
-    if file < 0 {
-        os::fail(&path[..length]);
-    }
-    file
 }
 
 // Moves the bytes of `buffer` from `from` up to `to` to its front.
@@ -68,32 +83,12 @@ fn keep(buffer: &mut [u8], from: usize, to: usize)
     }
 }
 
-// The result of one read: how many bytes came, and whether it failed. None come at the input's end.
-#[derive(Drop)]
-struct Got {
-    more: usize,
-    failed: bool,
-}
-
-// Reads once, into the buffer after the bytes that wait. If the read fails, it writes a line to standard error.
-fn fill(file: i32, buffer: &mut [u8], waiting: usize) -> Got
+// Reads once, into the buffer after the bytes that wait, and returns how many bytes came: none at the input's end.
+fn fill<R: Read>(source: &mut R, buffer: &mut [u8], waiting: usize) -> io::Result<usize>
     requires { waiting ≤ length buffer.old }
-    ensures { result.more ≤ length buffer.old - waiting }
+    ensures { IfOk result (λ more. more ≤ length buffer.old - waiting) }
 {
-    let free = &mut buffer[waiting..];
-    let got = libc::read(file, free);
-    if got < 0 {
-        os::fail(b"the trace can't be read");
-        return Got {
-            more: 0,
-            failed: true,
-        };
-    }
-    let more = io::count(got, free);
-    Got {
-        more,
-        failed: false,
-    }
+    source.read(&mut buffer[waiting..])
 }
 
 // Writes the trace's last line, and ends the trace.
@@ -107,35 +102,32 @@ fn last(state: State, offset: u64, waiting: usize, out: &mut [u8]) -> Feed
         waiting,
         written,
         done: true,
-        failed: false,
     }
 }
 
 // Reads on, since the buffer holds no whole record; writes the last line if the trace ends. If the read fails, there is no last line.
-fn read_on(
-    file: i32,
+fn read_on<R: Read>(
+    source: &mut R,
     state: State,
     offset: u64,
     waiting: usize,
     buffer: &mut [u8],
     out: &mut [u8],
-) -> Feed
+) -> io::Result<Feed>
     requires { waiting ≤ length buffer.old }
-    ensures { (result.waiting ≤ length buffer.old) × (result.written ≤ length out.old) }
+    ensures { IfOk result (λ f. (f.waiting ≤ length buffer.old) × (f.written ≤ length out.old)) }
 {
-    let got = fill(file, buffer, waiting);
-    let more = got.more;
-    if more == 0 && !got.failed {
-        return last(state, offset, waiting, out);
+    let more = fill(source, buffer, waiting)?;
+    if more == 0 {
+        return Ok(last(state, offset, waiting, out));
     }
-    Feed {
+    Ok(Feed {
         state,
         offset,
         waiting: waiting + more,
         written: 0,
-        done: got.failed,
-        failed: got.failed,
-    }
+        done: false,
+    })
 }
 
 // Drops the played records from the buffer: moves the bytes after them to its front.
@@ -153,32 +145,32 @@ fn go_on(f: Feed, p: Played, buffer: &mut [u8]) -> Feed
         waiting: waiting - taken,
         written: p.written,
         done: false,
-        failed: false,
     }
 }
 
 // Takes one turn: plays the records in the buffer, as many as `out` has room for; reads on if there is no whole one; writes the last line
-// if the trace ends. The caller then writes out the first `written` bytes of `out`.
-pub fn turn(
-    file: i32,
+// if the trace ends. The caller then writes out the first `written` bytes of `out`. If the read fails, nothing was played.
+pub fn turn<R: Read>(
+    source: &mut R,
     f: Feed,
     used: &mut [u32],
     stop: &mut [u32],
     buffer: &mut [u8],
     out: &mut [u8],
-) -> Feed
+) -> io::Result<Feed>
     requires { f.waiting ≤ length buffer.old }
-    ensures { (result.waiting ≤ length buffer.old) × (result.written ≤ length out.old) }
+    ensures ok { IfOk result (λ r. (r.waiting ≤ length buffer.old) × (r.written ≤ length out.old)) }
+    ensures err { OnErr result ((used.new ≡ used.old) × (stop.new ≡ stop.old)) }
 {
     let waiting = f.waiting;
     let before = f.state;
     let p = trace::play(before, used, stop, &buffer[..waiting], out);
     if 0 < p.taken {
-        return go_on(f, p, buffer);
+        return Ok(go_on(f, p, buffer));
     }
     let state = p.state;
     if p.bad {
-        return last(state, f.offset, waiting, out);
+        return Ok(last(state, f.offset, waiting, out));
     }
-    read_on(file, state, f.offset, waiting, buffer, out)
+    read_on(source, state, f.offset, waiting, buffer, out)
 }

@@ -6,6 +6,8 @@ use block::Block;
 use feed::Feed;
 use sizes::Pool;
 use state::State;
+use std::io;
+use std::io::Read;
 
 // ---- lines
 
@@ -21,7 +23,7 @@ fn hash(words: &[u32], base: usize, count: u32) -> u64 {
     h
 }
 
-fn pool_line(k: usize, q: Pool) {
+fn pool_line(rt: &impl Print, k: usize, q: Pool) -> io::Result<()> {
     let numbers = [
         k as u64,
         q.granularity,
@@ -30,10 +32,10 @@ fn pool_line(k: usize, q: Pool) {
         q.area as u64,
         q.used as u64,
     ];
-    show::line(b"  pool", &numbers);
+    show::line(rt, b"  pool", &numbers)
 }
 
-fn block_line(age: u64, used: u64, stop: u64, b: Block) {
+fn block_line(rt: &impl Print, age: u64, used: u64, stop: u64, b: Block) -> io::Result<()> {
     let numbers = [
         age,
         b.base,
@@ -49,75 +51,97 @@ fn block_line(age: u64, used: u64, stop: u64, b: Block) {
         used,
         stop,
     ];
-    show::line(b"  block", &numbers);
+    show::line(rt, b"  block", &numbers)
 }
 
 // ---- a state
 
-fn show_pools(s: State) {
-    let mut k: usize = 0;
-    while k < 3 {
+fn show_pools(rt: &impl Print, s: State) -> io::Result<()> {
+    for k in 0..3 {
         if k < s.poolcount {
-            pool_line(k, s.pools[k]);
+            pool_line(rt, k, s.pools[k])?;
         }
-        k += 1;
     }
+    Ok(())
 }
 
-fn show_block(age: usize, b: Block, w: usize, used: &[u32], stop: &[u32]) {
+fn show_block(
+    rt: &impl Print,
+    age: usize,
+    b: Block,
+    w: usize,
+    used: &[u32],
+    stop: &[u32],
+) -> io::Result<()> {
     let base = show::slot_base(b.slot, w);
     let count = b.area / 32;
     block_line(
+        rt,
         age as u64,
         hash(used, base, count),
         hash(stop, base, count),
         b,
-    );
+    )
 }
 
-fn show_blocks(s: State, used: &[u32], stop: &[u32]) {
-    let mut i: usize = 0;
-    while i < state::SLOT_LIMIT {
+fn show_blocks(rt: &impl Print, s: State, used: &[u32], stop: &[u32]) -> io::Result<()> {
+    for i in 0..state::SLOT_LIMIT {
         if i < s.count {
-            show_block(i, s.blocks[i], s.w, used, stop);
+            show_block(rt, i, s.blocks[i], s.w, used, stop)?;
         }
-        i += 1;
     }
+    Ok(())
 }
 
-fn show_state(s: State, used: &[u32], stop: &[u32]) {
-    show::line(b"  state", &[s.live, s.count as u64]);
-    show_pools(s);
-    show_blocks(s, used, stop);
+fn show_state(rt: &impl Print, s: State, used: &[u32], stop: &[u32]) -> io::Result<()> {
+    show::line(rt, b"  state", &[s.live, s.count as u64])?;
+    show_pools(rt, s)?;
+    show_blocks(rt, s, used, stop)
 }
 
 // ---- the trace
 
 // Shows what a turn wrote, and the state if that was a call's line. The trace's last line has no state after it.
-fn show_turn(f: Feed, used: &[u32], stop: &[u32], out: &[u8]) {
-    show::front(out, f.written);
+fn show_turn(rt: &impl Print, f: Feed, used: &[u32], stop: &[u32], out: &[u8]) -> io::Result<()> {
+    show::front(rt, out, f.written)?;
     if 0 < f.written && !f.done {
         let s = f.state;
-        show_state(s, used, stop);
+        show_state(rt, s, used, stop)?;
     }
+    Ok(())
 }
 
 // Plays the whole trace. `out` has room for one line only, so that a turn plays at most one record.
-fn play_all(used: &mut [u32], stop: &mut [u32], buffer: &mut [u8], out: &mut [u8]) {
+fn play_all<R: Read>(
+    rt: &impl Print,
+    source: &mut R,
+    used: &mut [u32],
+    stop: &mut [u32],
+    buffer: &mut [u8],
+    out: &mut [u8],
+) -> io::Result<()> {
     let mut f = feed::start();
     // Bounds the loop for the checker: nothing proves that a file ends.
     let mut turns = u64::MAX;
     while 0 < turns && !f.done {
-        f = feed::turn(libc::STDIN_FILENO, f, used, stop, buffer, out);
-        show_turn(f, used, stop, out);
+        f = feed::turn(source, f, used, stop, buffer, out)?;
+        show_turn(rt, f, used, stop, out)?;
         turns -= 1;
     }
+    Ok(())
 }
 
-fn main() {
+fn main(rt: HostRuntime) -> io::Result<()> {
     let mut used = feed::map_words();
     let mut stop = feed::map_words();
-    let mut buffer = io::buffer();
-    let mut out: [u8; 80] = [0; 80];
-    play_all(&mut used, &mut stop, &mut buffer, &mut out);
+    let mut buffer = [0u8; 4096];
+    let mut out = [0u8; 80];
+    play_all(
+        &rt,
+        &mut rt.stdin(),
+        &mut used,
+        &mut stop,
+        &mut buffer,
+        &mut out,
+    )
 }

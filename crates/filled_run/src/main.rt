@@ -2,10 +2,12 @@
 // oracle/README.md ("Filled mode"), so that every byte of the image can be compared with the original's.
 #![tactic(auto)]
 
-ghost use Rattle.std.specs.Prelude.{◌≡◌, ◌<◌, ◌≤◌, length};
+ghost use Rattle.std.specs.Prelude.{◌≡◌, ◌<◌, ◌≤◌, length, IfOk};
 
 use records::{Call, Record};
 use state::{Answer, Outcome, State};
+use std::io;
+use std::io::{ErrorKind, Read};
 
 // In memory: the bytes 44 33 22 11.
 const PATTERN: u32 = 0x11223344;
@@ -109,16 +111,18 @@ fn fill_write(bytes: &mut [u8], k: u64) {
     }
 }
 
-fn show_write(answer: Answer) {
+fn show_write(rt: &impl Print, answer: Answer) -> io::Result<()> {
     if let Answer::Shown(x) = answer {
-        show::line(b"  wrote", &[x.address, x.size]);
+        show::line(rt, b"  wrote", &[x.address, x.size])?;
     }
     if let Answer::Refused(why) = answer {
-        show::line(b"  refused", &[lines::refusal_number(why)]);
+        show::line(rt, b"  refused", &[lines::refusal_number(why)])?;
     }
+    Ok(())
 }
 
 fn copy(
+    rt: &impl Print,
     s: State,
     used: &[u32],
     stop: &[u32],
@@ -126,7 +130,7 @@ fn copy(
     k: u64,
     address: u64,
     bytes: &[u8],
-) {
+) -> io::Result<()> {
     let n = at_most(write_length(k), bytes);
     let answer = filling::copy::copy_from_slice(
         s,
@@ -137,13 +141,21 @@ fn copy(
         write_offset(k),
         &bytes[..n],
     );
-    show_write(answer);
+    show_write(rt, answer)
 }
 
-fn write(s: State, used: &[u32], stop: &[u32], image: &mut [u8], k: u64, address: u64) {
+fn write(
+    rt: &impl Print,
+    s: State,
+    used: &[u32],
+    stop: &[u32],
+    image: &mut [u8],
+    k: u64,
+    address: u64,
+) -> io::Result<()> {
     let mut bytes: [u8; 257] = [0; 257];
     fill_write(&mut bytes, k);
-    copy(s, used, stop, image, k, address, &bytes);
+    copy(rt, s, used, stop, image, k, address, &bytes)
 }
 
 // ---- lines
@@ -164,16 +176,16 @@ fn hash(bytes: &[u8]) -> u64 {
     h
 }
 
-fn show_answer(answer: Answer) {
+fn show_answer(rt: &impl Print, answer: Answer) -> io::Result<()> {
     let mut out: [u8; 80] = [0; 80];
     let end = lines::put_answer(&mut out, 0, answer);
-    show::front(&out, end);
+    show::front(rt, &out, end)
 }
 
-fn show_last(s: State, offset: u64, left: usize) {
+fn show_last(rt: &impl Print, s: State, offset: u64, left: usize) -> io::Result<()> {
     let mut out: [u8; 80] = [0; 80];
     let end = lines::finish(s, offset, left, &mut out);
-    show::front(&out, end);
+    show::front(rt, &out, end)
 }
 
 // ---- the trace
@@ -184,28 +196,44 @@ fn call_lent(s: State, used: &mut [u32], stop: &mut [u32], image: &mut [u8], c: 
     call(s, used, stop, &mut image[..n], c)
 }
 
-fn write_lent(s: State, used: &[u32], stop: &[u32], image: &mut [u8], k: u64, address: u64) {
+fn write_lent(
+    rt: &impl Print,
+    s: State,
+    used: &[u32],
+    stop: &[u32],
+    image: &mut [u8],
+    k: u64,
+    address: u64,
+) -> io::Result<()> {
     let n = at_most(s.length, image);
-    write(s, used, stop, &mut image[..n], k, address);
+    write(rt, s, used, stop, &mut image[..n], k, address)
 }
 
-fn show_lent(s: State, image: &[u8]) {
+fn show_lent(rt: &impl Print, s: State, image: &[u8]) -> io::Result<()> {
     let n = at_most(s.length, image);
-    show::line(b"  image", &[hash(&image[..n])]);
+    show::line(rt, b"  image", &[hash(&image[..n])])
 }
 
 // Makes call number k and shows its line; if an allocator exists, tries the write and shows the image's hash.
-fn turn(s: State, used: &mut [u32], stop: &mut [u32], image: &mut [u8], k: u64, c: Call) -> State {
+fn turn(
+    rt: &impl Print,
+    s: State,
+    used: &mut [u32],
+    stop: &mut [u32],
+    image: &mut [u8],
+    k: u64,
+    c: Call,
+) -> io::Result<State> {
     let o = call_lent(s, used, stop, image, c);
     let answer = o.answer;
     let after = o.state;
-    show_answer(answer);
+    show_answer(rt, answer)?;
     clear_where_created(answer, image);
     if after.length != 0 {
-        write_lent(after, used, stop, image, k, write_address(answer, c));
-        show_lent(after, image);
+        write_lent(rt, after, used, stop, image, k, write_address(answer, c))?;
+        show_lent(rt, after, image)?;
     }
-    after
+    Ok(after)
 }
 
 fn left(bytes: &[u8], taken: usize) -> usize {
@@ -223,7 +251,13 @@ fn read(bytes: &[u8], taken: usize) -> Record {
     Record::Cut
 }
 
-fn play_all(used: &mut [u32], stop: &mut [u32], image: &mut [u8], bytes: &[u8]) {
+fn play_all(
+    rt: &impl Print,
+    used: &mut [u32],
+    stop: &mut [u32],
+    image: &mut [u8],
+    bytes: &[u8],
+) -> io::Result<()> {
     let mut state = state::zero_state();
     let mut taken: usize = 0;
     let mut k: u64 = 1;
@@ -231,13 +265,13 @@ fn play_all(used: &mut [u32], stop: &mut [u32], image: &mut [u8], bytes: &[u8]) 
     while k < 65536 {
         let found = read(bytes, taken);
         let Record::Whole(n, c) = found else {
-            show_last(state, taken as u64, left(bytes, taken));
-            return;
+            return show_last(rt, state, taken as u64, left(bytes, taken));
         };
-        state = turn(state, used, stop, image, k, c);
+        state = turn(rt, state, used, stop, image, k, c)?;
         taken = std::num::wrapping_add_usize(taken, n);
         k += 1;
     }
+    Ok(())
 }
 
 // Makes a zero image of 1 MiB. The calls refuse it for a longer arena.
@@ -247,15 +281,30 @@ fn zeros() -> [u8; 1048576]
     [0; 1048576]
 }
 
-fn main() {
+// Reads until the buffer is full or the input ends, and returns how many bytes came.
+fn read_full<R: Read>(source: &mut R, bytes: &mut [u8]) -> io::Result<usize>
+    ensures { IfOk result (λ n. n ≤ length bytes.old) }
+{
+    let mut done: usize = 0;
+    while done < bytes.len() {
+        let more = source.read(&mut bytes[done..])?;
+        if more == 0 {
+            return Ok(done);
+        }
+        done += more;
+    }
+    Ok(done)
+}
+
+fn main(rt: HostRuntime) -> io::Result<()> {
     let mut used = feed::map_words();
     let mut stop = feed::map_words();
     let mut image = zeros();
-    let mut bytes = io::large_buffer();
-    let n = io::read_full(libc::STDIN_FILENO, &mut bytes);
+    let mut bytes = [0u8; 65536];
+    let n = read_full(&mut rt.stdin(), &mut bytes)?;
     if n == bytes.len() {
-        os::fail(b"the trace is too long for this program");
-        return;
+        eprintln!(rt; "the trace is too long for this program")?;
+        return Ok(());
     }
-    play_all(&mut used, &mut stop, &mut image, &bytes[..n]);
+    play_all(&rt, &mut used, &mut stop, &mut image, &bytes[..n])
 }

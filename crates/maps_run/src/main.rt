@@ -4,27 +4,26 @@
 
 ghost use Rattle.std.specs.Prelude.{◌≡◌, length};
 
-fn number(n: u64) {
-    io::write_all(1, b" ");
-    io::print_decimal(1, n);
+use std::io;
+
+fn number(rt: &impl Print, n: u64) -> io::Result<()> {
+    print!(rt; " {n}")
 }
 
-fn line_end() {
-    io::write_all(1, b"\n");
+fn line_end(rt: &impl Print) -> io::Result<()> {
+    print!(rt; "\n")
 }
 
-fn word(w: u32) {
-    number(w as u64);
+fn word(rt: &impl Print, w: u32) -> io::Result<()> {
+    number(rt, w as u64)
 }
 
 // Writes ` W0 W1 ..` and the line's end.
-fn words(map: &[u32]) {
-    let mut i: usize = 0;
-    while i < map.len() {
-        word(map[i]);
-        i += 1;
+fn words(rt: &impl Print, map: &[u32]) -> io::Result<()> {
+    for w in map {
+        word(rt, *w)?;
     }
-    line_end();
+    line_end(rt)
 }
 
 // ---- bits
@@ -45,183 +44,179 @@ fn pattern(p: usize) -> [u32; 3]
 }
 
 // Writes ` P I`.
-fn place(p: usize, index: usize) {
-    number(p as u64);
-    number(index as u64);
+fn place(rt: &impl Print, p: usize, index: usize) -> io::Result<()> {
+    number(rt, p as u64)?;
+    number(rt, index as u64)
 }
 
 // Writes `fill P I C W0 W1 W2`, or `clear ..`, if the map has that many bits.
-fn range(p: usize, index: usize, count: usize, value: bool) {
+fn range(rt: &impl Print, p: usize, index: usize, count: usize, value: bool) -> io::Result<()> {
     if index <= 96 {
         if count <= 96 - index {
             let mut map = pattern(p);
             if value {
-                io::write_all(1, b"fill");
+                print!(rt; "fill")?;
             } else {
-                io::write_all(1, b"clear");
+                print!(rt; "clear")?;
             }
-            place(p, index);
-            number(count as u64);
+            place(rt, p, index)?;
+            number(rt, count as u64)?;
             if value {
                 bits::fill::bit_vector_fill(&mut map, index, count);
-                words(&map);
+                words(rt, &map)?;
             } else {
                 bits::fill::bit_vector_clear(&mut map, index, count);
-                words(&map);
+                words(rt, &map)?;
             }
         }
     }
+    Ok(())
 }
 
-fn fill_and_clear(p: usize, index: usize, count: usize) {
-    range(p, index, count, true);
-    range(p, index, count, false);
+fn fill_and_clear(rt: &impl Print, p: usize, index: usize, count: usize) -> io::Result<()> {
+    range(rt, p, index, count, true)?;
+    range(rt, p, index, count, false)
 }
 
-fn counts(p: usize, index: usize) {
-    fill_and_clear(p, index, 0);
-    fill_and_clear(p, index, 1);
-    fill_and_clear(p, index, 2);
-    fill_and_clear(p, index, 31);
-    fill_and_clear(p, index, 32);
-    fill_and_clear(p, index, 33);
-    fill_and_clear(p, index, 64);
-    fill_and_clear(p, index, 65);
-    fill_and_clear(p, index, 96);
+fn counts(rt: &impl Print, p: usize, index: usize) -> io::Result<()> {
+    for count in [0, 1, 2, 31, 32, 33, 64, 65, 96] {
+        fill_and_clear(rt, p, index, count)?;
+    }
+    Ok(())
 }
 
-fn ranges(p: usize) {
-    counts(p, 0);
-    counts(p, 1);
-    counts(p, 15);
-    counts(p, 30);
-    counts(p, 31);
-    counts(p, 32);
-    counts(p, 33);
-    counts(p, 63);
-    counts(p, 64);
-    counts(p, 65);
-    counts(p, 94);
-    counts(p, 95);
+fn ranges(rt: &impl Print, p: usize) -> io::Result<()> {
+    for index in [0, 1, 15, 30, 31, 32, 33, 63, 64, 65, 94, 95] {
+        counts(rt, p, index)?;
+    }
+    Ok(())
 }
 
 // Writes `get P I B`.
-fn get(p: usize, index: usize) {
+fn get(rt: &impl Print, p: usize, index: usize) -> io::Result<()> {
     if index < 96 {
-        io::write_all(1, b"get");
-        place(p, index);
+        print!(rt; "get")?;
+        place(rt, p, index)?;
         let words = pattern(p);
         if bits::bit_vector_get_bit(&words, index) {
-            number(1);
+            number(rt, 1)?;
         } else {
-            number(0);
+            number(rt, 0)?;
         }
-        line_end();
+        line_end(rt)?;
     }
+    Ok(())
 }
 
 // Writes `set P I W0 W1 W2`, or `unset ..`.
-fn put(p: usize, index: usize, value: bool) {
+fn put(rt: &impl Print, p: usize, index: usize, value: bool) -> io::Result<()> {
     if index < 96 {
         let mut map = pattern(p);
         bits::bit_vector_set_bit(&mut map, index, value);
         if value {
-            io::write_all(1, b"set");
+            print!(rt; "set")?;
         } else {
-            io::write_all(1, b"unset");
+            print!(rt; "unset")?;
         }
-        place(p, index);
-        words(&map);
+        place(rt, p, index)?;
+        words(rt, &map)?;
     }
+    Ok(())
 }
 
 // Writes the first bit from `index` on that is `value`.
-fn index_of(p: usize, index: usize, value: bool) {
+fn index_of(rt: &impl Print, p: usize, index: usize, value: bool) -> io::Result<()> {
     if index < 96 {
         let map = pattern(p);
-        number(bits::index::bit_vector_index_of(&map, index, value) as u64);
+        number(
+            rt,
+            bits::index::bit_vector_index_of(&map, index, value) as u64,
+        )?;
     }
+    Ok(())
 }
 
 // Writes the lines on one bit, and then `first P I ONE ZERO`.
-fn single(p: usize, index: usize) {
-    get(p, index);
-    put(p, index, true);
-    put(p, index, false);
-    io::write_all(1, b"first");
-    place(p, index);
-    index_of(p, index, true);
-    index_of(p, index, false);
-    line_end();
+fn single(rt: &impl Print, p: usize, index: usize) -> io::Result<()> {
+    get(rt, p, index)?;
+    put(rt, p, index, true)?;
+    put(rt, p, index, false)?;
+    print!(rt; "first")?;
+    place(rt, p, index)?;
+    index_of(rt, p, index, true)?;
+    index_of(rt, p, index, false)?;
+    line_end(rt)
 }
 
-fn singles(p: usize) {
-    single(p, 0);
-    single(p, 1);
-    single(p, 30);
-    single(p, 31);
-    single(p, 32);
-    single(p, 33);
-    single(p, 63);
-    single(p, 64);
-    single(p, 65);
-    single(p, 94);
-    single(p, 95);
+fn singles(rt: &impl Print, p: usize) -> io::Result<()> {
+    for index in [0, 1, 30, 31, 32, 33, 63, 64, 65, 94, 95] {
+        single(rt, p, index)?;
+    }
+    Ok(())
 }
 
 // ---- slots: a map of six words, three slots of two
 
 // Writes `mark SLOT AT N W0 W1 W2 W3 W4 W5`, or `unmark ..`.
-fn change(map: &mut [u32; 6], value: bool, slot: usize, at: usize, n: usize) {
+fn change(
+    rt: &impl Print,
+    map: &mut [u32; 6],
+    value: bool,
+    slot: usize,
+    at: usize,
+    n: usize,
+) -> io::Result<()> {
     if slot < 3 {
         if at <= 64 {
             if n <= 64 - at {
                 if value {
                     slots::mark(map, slot, 2, at, n);
-                    io::write_all(1, b"mark");
+                    print!(rt; "mark")?;
                 } else {
                     slots::unmark(map, slot, 2, at, n);
-                    io::write_all(1, b"unmark");
+                    print!(rt; "unmark")?;
                 }
-                number(slot as u64);
-                number(at as u64);
-                number(n as u64);
-                words(map);
+                number(rt, slot as u64)?;
+                number(rt, at as u64)?;
+                number(rt, n as u64)?;
+                words(rt, map)?;
             }
         }
     }
+    Ok(())
 }
 
 // Writes `slot SLOT W0 W1`.
-fn part(map: &[u32; 6], slot: usize) {
+fn part(rt: &impl Print, map: &[u32; 6], slot: usize) -> io::Result<()> {
     if slot < 3 {
-        io::write_all(1, b"slot");
-        number(slot as u64);
-        words(slots::slot(map, slot, 2));
+        print!(rt; "slot")?;
+        number(rt, slot as u64)?;
+        words(rt, slots::slot(map, slot, 2))?;
     }
+    Ok(())
 }
 
 // Marks and unmarks units of a map whose words are all `word` at first, and then writes each slot.
-fn history(word: u32) {
+fn history(rt: &impl Print, word: u32) -> io::Result<()> {
     let mut map = [word; 6];
-    change(&mut map, true, 0, 0, 1);
-    change(&mut map, true, 0, 31, 2);
-    change(&mut map, true, 1, 0, 64);
-    change(&mut map, true, 2, 5, 40);
-    change(&mut map, false, 1, 30, 4);
-    change(&mut map, false, 1, 63, 1);
-    change(&mut map, false, 2, 6, 37);
-    change(&mut map, true, 2, 63, 1);
-    change(&mut map, true, 2, 64, 0);
-    change(&mut map, false, 0, 32, 1);
-    change(&mut map, false, 0, 0, 64);
-    change(&mut map, true, 0, 63, 1);
-    change(&mut map, true, 1, 33, 1);
-    change(&mut map, false, 2, 0, 0);
-    change(&mut map, false, 1, 0, 32);
-    part(&map, 0);
-    part(&map, 1);
-    part(&map, 2);
+    change(rt, &mut map, true, 0, 0, 1)?;
+    change(rt, &mut map, true, 0, 31, 2)?;
+    change(rt, &mut map, true, 1, 0, 64)?;
+    change(rt, &mut map, true, 2, 5, 40)?;
+    change(rt, &mut map, false, 1, 30, 4)?;
+    change(rt, &mut map, false, 1, 63, 1)?;
+    change(rt, &mut map, false, 2, 6, 37)?;
+    change(rt, &mut map, true, 2, 63, 1)?;
+    change(rt, &mut map, true, 2, 64, 0)?;
+    change(rt, &mut map, false, 0, 32, 1)?;
+    change(rt, &mut map, false, 0, 0, 64)?;
+    change(rt, &mut map, true, 0, 63, 1)?;
+    change(rt, &mut map, true, 1, 33, 1)?;
+    change(rt, &mut map, false, 2, 0, 0)?;
+    change(rt, &mut map, false, 1, 0, 32)?;
+    part(rt, &map, 0)?;
+    part(rt, &map, 1)?;
+    part(rt, &map, 2)
 }
 
 // ---- runs
@@ -263,54 +258,53 @@ fn used(p: usize) -> [u32; 3]
 }
 
 // Writes ` P S E`.
-fn window(p: usize, start: usize, end: usize) {
-    number(p as u64);
-    number(start as u64);
-    number(end as u64);
+fn window(rt: &impl Print, p: usize, start: usize, end: usize) -> io::Result<()> {
+    number(rt, p as u64)?;
+    number(rt, start as u64)?;
+    number(rt, end as u64)
 }
 
-fn found(answer: runs::Search) {
+fn found(rt: &impl Print, answer: runs::Search) -> io::Result<()> {
     match answer {
         runs::Search::At(i) => {
-            io::write_all(1, b" at");
-            number(i as u64);
+            print!(rt; " at")?;
+            number(rt, i as u64)?;
         }
         runs::Search::Tight(first, last, longest) => {
-            io::write_all(1, b" tight");
-            number(first as u64);
-            number(last as u64);
-            number(longest as u64);
+            print!(rt; " tight")?;
+            number(rt, first as u64)?;
+            number(rt, last as u64)?;
+            number(rt, longest as u64)?;
         }
         runs::Search::Full => {
-            io::write_all(1, b" full");
+            print!(rt; " full")?;
         }
     }
-    line_end();
+    line_end(rt)
 }
 
 // Writes `search P S E N`, and ` at I`, ` tight FIRST LAST LONGEST` or ` full`.
-fn search(p: usize, start: usize, end: usize, n: usize) {
+fn search(rt: &impl Print, p: usize, start: usize, end: usize, n: usize) -> io::Result<()> {
     if start <= 96 {
         if end <= 96 {
             if 0 < n {
-                io::write_all(1, b"search");
-                window(p, start, end);
-                number(n as u64);
+                print!(rt; "search")?;
+                window(rt, p, start, end)?;
+                number(rt, n as u64)?;
                 let map = used(p);
-                found(runs::window::search_window(&map, start, end, n));
+                found(rt, runs::window::search_window(&map, start, end, n))?;
             }
         }
     }
+    Ok(())
 }
 
-fn run(start: usize, end: usize) {
-    number(start as u64);
-    io::write_all(1, b"-");
-    io::print_decimal(1, end as u64);
+fn run(rt: &impl Print, start: usize, end: usize) -> io::Result<()> {
+    print!(rt; " {start}-{end}")
 }
 
 // Writes the runs that a walk yields. None is cut, since no run of three words is as long as 97. `fuel` bounds the loop for the checker.
-fn walk(words: &[u32], start: usize, end: usize) {
+fn walk(rt: &impl Print, words: &[u32], start: usize, end: usize) -> io::Result<()> {
     if words.len() == 3 {
         if start <= 96 {
             if end <= 96 {
@@ -320,13 +314,13 @@ fn walk(words: &[u32], start: usize, end: usize) {
                 let mut fuel: usize = 97;
                 while 0 < fuel {
                     if 3 < at {
-                        return;
+                        return Ok(());
                     }
                     let got = runs::walker::step(words, at, word, end, 97);
                     let runs::Next::Run(s, e, next) = got else {
-                        return;
+                        return Ok(());
                     };
-                    run(s, e);
+                    run(rt, s, e)?;
                     at = next.at;
                     word = next.word;
                     fuel -= 1;
@@ -334,75 +328,50 @@ fn walk(words: &[u32], start: usize, end: usize) {
             }
         }
     }
+    Ok(())
 }
 
 // Writes `runs P S E`, and ` s-e` for each run.
-fn walked(p: usize, start: usize, end: usize) {
-    io::write_all(1, b"runs");
-    window(p, start, end);
+fn walked(rt: &impl Print, p: usize, start: usize, end: usize) -> io::Result<()> {
+    print!(rt; "runs")?;
+    window(rt, p, start, end)?;
     let map = used(p);
-    walk(&map, start, end);
-    line_end();
+    walk(rt, &map, start, end)?;
+    line_end(rt)
 }
 
-fn both(p: usize, start: usize, end: usize) {
-    search(p, start, end, 1);
-    search(p, start, end, 5);
-    search(p, start, end, 33);
-    walked(p, start, end);
+fn both(rt: &impl Print, p: usize, start: usize, end: usize) -> io::Result<()> {
+    search(rt, p, start, end, 1)?;
+    search(rt, p, start, end, 5)?;
+    search(rt, p, start, end, 33)?;
+    walked(rt, p, start, end)
 }
 
-fn ends(p: usize, start: usize) {
-    both(p, start, 0);
-    both(p, start, 1);
-    both(p, start, 4);
-    both(p, start, 8);
-    both(p, start, 12);
-    both(p, start, 31);
-    both(p, start, 32);
-    both(p, start, 33);
-    both(p, start, 40);
-    both(p, start, 63);
-    both(p, start, 64);
-    both(p, start, 65);
-    both(p, start, 95);
-    both(p, start, 96);
+fn ends(rt: &impl Print, p: usize, start: usize) -> io::Result<()> {
+    for end in [0, 1, 4, 8, 12, 31, 32, 33, 40, 63, 64, 65, 95, 96] {
+        both(rt, p, start, end)?;
+    }
+    Ok(())
 }
 
-fn starts(p: usize) {
-    ends(p, 0);
-    ends(p, 1);
-    ends(p, 4);
-    ends(p, 8);
-    ends(p, 12);
-    ends(p, 31);
-    ends(p, 32);
-    ends(p, 33);
-    ends(p, 40);
-    ends(p, 63);
-    ends(p, 64);
-    ends(p, 65);
-    ends(p, 95);
-    ends(p, 96);
+fn starts(rt: &impl Print, p: usize) -> io::Result<()> {
+    for start in [0, 1, 4, 8, 12, 31, 32, 33, 40, 63, 64, 65, 95, 96] {
+        ends(rt, p, start)?;
+    }
+    Ok(())
 }
 
-fn main() {
-    ranges(0);
-    ranges(1);
-    ranges(2);
-    ranges(3);
-    singles(0);
-    singles(1);
-    singles(2);
-    singles(3);
-    history(0);
-    history(4294967295);
-    starts(0);
-    starts(1);
-    starts(2);
-    starts(3);
-    starts(4);
-    starts(5);
-    starts(6);
-    starts(7);
+fn main(rt: HostRuntime) -> io::Result<()> {
+    for p in [0, 1, 2, 3] {
+        ranges(&rt, p)?;
+    }
+    for p in [0, 1, 2, 3] {
+        singles(&rt, p)?;
+    }
+    history(&rt, 0)?;
+    history(&rt, 4294967295)?;
+    for p in [0, 1, 2, 3, 4, 5, 6, 7] {
+        starts(&rt, p)?;
+    }
+    Ok(())
 }

@@ -4,36 +4,43 @@
 
 ghost use Rattle.std.specs.Prelude.{◌≡◌, ◌*◌, ◌≤◌, ◌<◌, ◌^◌};
 
-fn number(n: u64) {
-    io::write_all(1, b" ");
-    io::print_decimal(1, n);
+use std::io;
+
+fn number(rt: &impl Print, n: u64) -> io::Result<()> {
+    print!(rt; " {n}")
 }
 
-fn line_end() {
-    io::write_all(1, b"\n");
+fn line_end(rt: &impl Print) -> io::Result<()> {
+    print!(rt; "\n")
 }
 
 // Writes `X A DOWN UP`.
-fn aligned(x: u64, alignment: u64) {
+fn aligned(rt: &impl Print, x: u64, alignment: u64) -> io::Result<()> {
     if 0 < alignment {
-        io::print_decimal(1, x);
-        number(alignment);
-        number(numbers::align_down(x, alignment));
-        number(numbers::align_up(x, alignment));
-        line_end();
+        print!(rt; "{x}")?;
+        number(rt, alignment)?;
+        number(rt, numbers::align_down(x, alignment))?;
+        number(rt, numbers::align_up(x, alignment))?;
+        line_end(rt)?;
     }
+    Ok(())
 }
 
-fn alignments(x: u64) {
-    aligned(x, 1);
-    aligned(x, 64);
-    aligned(x, 128);
-    aligned(x, 256);
-    aligned(x, 65536);
-    aligned(x, 131072);
-    aligned(x, 786432);
-    aligned(x, 33554432);
-    aligned(x, 9223372036854775808);
+fn alignments(rt: &impl Print, x: u64) -> io::Result<()> {
+    for alignment in [
+        1,
+        64,
+        128,
+        256,
+        65536,
+        131072,
+        786432,
+        33554432,
+        9223372036854775808,
+    ] {
+        aligned(rt, x, alignment)?;
+    }
+    Ok(())
 }
 
 fn bytes_of(n: u32, unit: u64) -> u64
@@ -44,87 +51,91 @@ fn bytes_of(n: u32, unit: u64) -> u64
 }
 
 // Writes `bytes N UNIT SIZE`, if a unit has at most 1,024 bytes.
-fn bytes(n: u32, unit: u64) {
+fn bytes(rt: &impl Print, n: u32, unit: u64) -> io::Result<()> {
     if unit <= 1024 {
-        io::write_all(1, b"bytes");
-        number(n as u64);
-        number(unit);
-        number(bytes_of(n, unit));
-        line_end();
+        print!(rt; "bytes")?;
+        number(rt, n as u64)?;
+        number(rt, unit)?;
+        number(rt, bytes_of(n, unit))?;
+        line_end(rt)?;
     }
+    Ok(())
 }
 
 // Writes `units SIZE UNIT N` and those units' bytes, if a unit has at most 1,024 bytes and N fits 32 bits.
-fn units(size: u64, unit: u64) {
+fn units(rt: &impl Print, size: u64, unit: u64) -> io::Result<()> {
     if 0 < unit {
         if unit <= 1024 {
             let most = 4294967295 * unit;
             if size <= most {
                 let n = numbers::area_size_from_byte_size(size, unit);
-                io::write_all(1, b"units");
-                number(size);
-                number(unit);
-                number(n as u64);
-                line_end();
-                bytes(n, unit);
+                print!(rt; "units")?;
+                number(rt, size)?;
+                number(rt, unit)?;
+                number(rt, n as u64)?;
+                line_end(rt)?;
+                bytes(rt, n, unit)?;
             }
         }
     }
+    Ok(())
 }
 
-fn units_of(size: u64) {
-    units(size, 64);
-    units(size, 128);
-    units(size, 256);
-    units(size, 512);
-    units(size, 1024);
+fn units_of(rt: &impl Print, size: u64) -> io::Result<()> {
+    for unit in [64, 128, 256, 512, 1024] {
+        units(rt, size, unit)?;
+    }
+    Ok(())
 }
 
 // Writes `granularity ASKED G`.
-fn granularity(asked: u32) {
-    io::write_all(1, b"granularity");
-    number(asked as u64);
-    number(sizes::limits::granularity_in_force(asked));
-    line_end();
+fn granularity(rt: &impl Print, asked: u32) -> io::Result<()> {
+    print!(rt; "granularity")?;
+    number(rt, asked as u64)?;
+    number(rt, sizes::limits::granularity_in_force(asked))?;
+    line_end(rt)
 }
 
 // Writes `base ASKED SIZE`.
-fn base(asked: u32) {
-    io::write_all(1, b"base");
-    number(asked as u64);
-    number(sizes::limits::base_size_in_force(asked));
-    line_end();
+fn base(rt: &impl Print, asked: u32) -> io::Result<()> {
+    print!(rt; "base")?;
+    number(rt, asked as u64)?;
+    number(rt, sizes::limits::base_size_in_force(asked))?;
+    line_end(rt)
 }
 
 // Writes ` to SIZE`, or ` refused N`.
-fn answer(r: sizes::Rounded) {
+fn answer(rt: &impl Print, r: sizes::Rounded) -> io::Result<()> {
     match r {
         sizes::Rounded::To(size) => {
-            io::write_all(1, b" to");
-            number(size);
+            print!(rt; " to")?;
+            number(rt, size)?;
         }
         sizes::Rounded::Refused(n) => {
-            io::write_all(1, b" refused");
-            number(n as u64);
+            print!(rt; " refused")?;
+            number(rt, n as u64)?;
         }
     }
+    Ok(())
 }
 
 // Writes `round SIZE G to ROUNDED`, or `round SIZE G refused N`.
-fn round(size: u64, granularity: u64) {
+fn round(rt: &impl Print, size: u64, granularity: u64) -> io::Result<()> {
     if 0 < granularity {
-        io::write_all(1, b"round");
-        number(size);
-        number(granularity);
-        answer(sizes::round_size(size, granularity));
-        line_end();
+        print!(rt; "round")?;
+        number(rt, size)?;
+        number(rt, granularity)?;
+        answer(rt, sizes::round_size(size, granularity))?;
+        line_end(rt)?;
     }
+    Ok(())
 }
 
-fn rounds(size: u64) {
-    round(size, 64);
-    round(size, 128);
-    round(size, 256);
+fn rounds(rt: &impl Print, size: u64) -> io::Result<()> {
+    for granularity in [64, 128, 256] {
+        round(rt, size, granularity)?;
+    }
+    Ok(())
 }
 
 // A size's pool at granularity 64: out of three, and out of one.
@@ -144,131 +155,135 @@ fn pools_of(size: u64) -> Pools
 }
 
 // Writes `pool SIZE OF_THREE OF_ONE`.
-fn pool(size: u64) {
+fn pool(rt: &impl Print, size: u64) -> io::Result<()> {
     if size < 4294967296 {
-        io::write_all(1, b"pool");
-        number(size);
+        print!(rt; "pool")?;
+        number(rt, size)?;
         let pools = pools_of(size);
-        number(pools.of_three as u64);
-        number(pools.of_one as u64);
-        line_end();
+        number(rt, pools.of_three as u64)?;
+        number(rt, pools.of_one as u64)?;
+        line_end(rt)?;
     }
+    Ok(())
 }
 
 // Writes the pools of the sizes up to 2,048 bytes, in steps of 64.
-fn every_pool() {
+fn every_pool(rt: &impl Print) -> io::Result<()> {
     let mut size: u64 = 64;
     while size <= 2048 {
-        pool(size);
+        pool(rt, size)?;
         size += 64;
     }
+    Ok(())
 }
 
 // Writes `ideal NEWEST REQUEST SIZE`.
-fn ideal(newest: u64, size: u64) {
+fn ideal(rt: &impl Print, newest: u64, size: u64) -> io::Result<()> {
     if 0 < newest {
         if newest <= 134217728 {
             if size < 4294967296 {
-                io::write_all(1, b"ideal");
-                number(newest);
-                number(size);
-                number(sizes::calculate_ideal_block_size(newest, size));
-                line_end();
+                print!(rt; "ideal")?;
+                number(rt, newest)?;
+                number(rt, size)?;
+                number(rt, sizes::calculate_ideal_block_size(newest, size))?;
+                line_end(rt)?;
             }
         }
     }
+    Ok(())
 }
 
-fn ideals(newest: u64) {
-    ideal(newest, 64);
-    ideal(newest, 131072);
-    ideal(newest, 300032);
-    ideal(newest, 786496);
-    ideal(newest, 1000000);
-    ideal(newest, 1310784);
-    ideal(newest, 2147483584);
+fn ideals(rt: &impl Print, newest: u64) -> io::Result<()> {
+    for size in [64, 131072, 300032, 786496, 1000000, 1310784, 2147483584] {
+        ideal(rt, newest, size)?;
+    }
+    Ok(())
 }
 
-fn numbers_given() {
-    alignments(0);
-    alignments(1);
-    alignments(63);
-    alignments(64);
-    alignments(65);
-    alignments(100);
-    alignments(128);
-    alignments(4095);
-    alignments(65535);
-    alignments(65536);
-    alignments(65537);
-    alignments(131071);
-    alignments(300000);
-    alignments(786432);
-    alignments(786496);
-    alignments(1000000);
-    alignments(1310784);
-    alignments(2147483583);
-    alignments(2147483584);
-    alignments(2147483585);
-    alignments(4294967295);
-    alignments(4294967296);
-    alignments(18446744073709551488);
-    alignments(18446744073709551551);
-    alignments(18446744073709551552);
-    alignments(18446744073709551553);
-    alignments(18446744073709551614);
-    alignments(18446744073709551615);
+fn numbers_given(rt: &impl Print) -> io::Result<()> {
+    for x in [
+        0,
+        1,
+        63,
+        64,
+        65,
+        100,
+        128,
+        4095,
+        65535,
+        65536,
+        65537,
+        131071,
+        300000,
+        786432,
+        786496,
+        1000000,
+        1310784,
+        2147483583,
+        2147483584,
+        2147483585,
+        4294967295,
+        4294967296,
+        18446744073709551488,
+        18446744073709551551,
+        18446744073709551552,
+        18446744073709551553,
+        18446744073709551614,
+        18446744073709551615,
+    ] {
+        alignments(rt, x)?;
+    }
+    Ok(())
 }
 
-fn sizes_given() {
-    units_of(0);
-    units_of(1);
-    units_of(63);
-    units_of(64);
-    units_of(65);
-    units_of(100);
-    units_of(192);
-    units_of(1023);
-    units_of(1024);
-    units_of(65536);
-    units_of(300032);
-    units_of(2147483584);
-    units_of(274877906880);
+fn sizes_given(rt: &impl Print) -> io::Result<()> {
+    for size in [
+        0,
+        1,
+        63,
+        64,
+        65,
+        100,
+        192,
+        1023,
+        1024,
+        65536,
+        300032,
+        2147483584,
+        274877906880,
+    ] {
+        units_of(rt, size)?;
+    }
+    Ok(())
 }
 
-fn creations() {
-    granularity(32);
-    granularity(96);
-    granularity(512);
-    granularity(256);
-    granularity(64);
-    granularity(128);
-    granularity(0);
-    base(65536);
-    base(131072);
-    base(33554432);
-    base(67108864);
-    base(0);
-    base(65537);
-    base(98304);
+fn creations(rt: &impl Print) -> io::Result<()> {
+    for asked in [32, 96, 512, 256, 64, 128, 0] {
+        granularity(rt, asked)?;
+    }
+    for asked in [65536, 131072, 33554432, 67108864, 0, 65537, 98304] {
+        base(rt, asked)?;
+    }
+    Ok(())
 }
 
-fn main() {
-    numbers_given();
-    sizes_given();
-    creations();
-    rounds(2147483584);
-    rounds(0);
-    rounds(1);
-    rounds(18446744073709551553);
-    rounds(18446744073709551552);
-    rounds(2147483585);
-    every_pool();
-    ideals(65536);
-    ideals(131072);
-    ideals(393216);
-    ideals(786432);
-    ideals(16777216);
-    ideals(33554432);
-    ideals(67108864);
+fn main(rt: HostRuntime) -> io::Result<()> {
+    numbers_given(&rt)?;
+    sizes_given(&rt)?;
+    creations(&rt)?;
+    for size in [
+        2147483584,
+        0,
+        1,
+        18446744073709551553,
+        18446744073709551552,
+        2147483585,
+    ] {
+        rounds(&rt, size)?;
+    }
+    every_pool(&rt)?;
+    for newest in [65536, 131072, 393216, 786432, 16777216, 33554432, 67108864] {
+        ideals(&rt, newest)?;
+    }
+    Ok(())
 }

@@ -3,8 +3,9 @@
 #![tactic(auto)]
 
 use block::Block;
-use feed::Feed;
+use feed::{Feed, Source};
 use state::State;
+use std::io;
 
 const FREE: u8 = b'.';
 
@@ -15,20 +16,20 @@ const BODY: u8 = b'=';
 // ---- the trace
 
 fn play_all(
-    file: i32,
+    source: &mut Source,
     used: &mut [u32],
     stop: &mut [u32],
     buffer: &mut [u8],
     out: &mut [u8],
-) -> Feed {
+) -> io::Result<Feed> {
     let mut f = feed::start();
     // Bounds the loop for the checker: nothing proves that a file ends.
     let mut turns = u64::MAX;
     while 0 < turns && !f.done {
-        f = feed::turn(file, f, used, stop, buffer, out);
+        f = feed::turn(source, f, used, stop, buffer, out)?;
         turns -= 1;
     }
-    f
+    Ok(f)
 }
 
 // ---- units
@@ -58,30 +59,29 @@ fn mark_of(used: &[u32], stop: &[u32], base: usize, unit: usize) -> u8 {
 
 // ---- what is written
 
-fn byte(b: u8) {
-    let bytes: [u8; 1] = [b];
-    io::write_all(1, &bytes);
+fn byte(rt: &impl Print, b: u8) -> io::Result<()> {
+    rt.write_all(&[b])
 }
 
-fn number(numbers: &[u64], at: usize) {
+fn number(rt: &impl Print, numbers: &[u64], at: usize) -> io::Result<()> {
     if at < numbers.len() {
-        io::print_decimal(1, numbers[at]);
+        print!(rt; "{}", numbers[at])?;
     }
+    Ok(())
 }
 
 // Writes the text with the next number in the place of each `@`.
-fn form(text: &[u8], numbers: &[u64]) {
+fn form(rt: &impl Print, text: &[u8], numbers: &[u64]) -> io::Result<()> {
     let mut next: usize = 0;
-    let mut i: usize = 0;
-    while i < text.len() {
-        if text[i] == b'@' {
-            number(numbers, next);
+    for b in text {
+        if *b == b'@' {
+            number(rt, numbers, next)?;
             next = std::num::wrapping_add_usize(next, 1);
         } else {
-            byte(text[i]);
+            byte(rt, *b)?;
         }
-        i += 1;
     }
+    Ok(())
 }
 
 // ---- a block
@@ -98,14 +98,19 @@ fn alike(used: &[u32], stop: &[u32], base: usize, from: usize, to: usize, mark: 
     true
 }
 
-fn draw_row(used: &[u32], stop: &[u32], base: usize, from: usize, to: usize) {
-    form(b" @\t", &[from as u64]);
-    let mut i = from;
-    while i < to {
-        byte(mark_of(used, stop, base, i));
-        i += 1;
+fn draw_row(
+    rt: &impl Print,
+    used: &[u32],
+    stop: &[u32],
+    base: usize,
+    from: usize,
+    to: usize,
+) -> io::Result<()> {
+    form(rt, b" @\t", &[from as u64])?;
+    for i in from..to {
+        byte(rt, mark_of(used, stop, base, i))?;
     }
-    byte(b'\n');
+    byte(rt, b'\n')
 }
 
 // Returns FREE or BODY if the row's units are all free or all inside a span, else START: a row to draw.
@@ -120,15 +125,22 @@ fn row_kind(used: &[u32], stop: &[u32], base: usize, from: usize, to: usize) -> 
 }
 
 // Writes how many rows of a kind were counted and not drawn.
-fn passed(kind: u8, rows: u64) {
+fn passed(rt: &impl Print, kind: u8, rows: u64) -> io::Result<()> {
     if 0 < rows {
-        byte(b'\t');
-        byte(kind);
-        form(b" in rows of 64: @\n", &[rows]);
+        byte(rt, b'\t')?;
+        byte(rt, kind)?;
+        form(rt, b" in rows of 64: @\n", &[rows])?;
     }
+    Ok(())
 }
 
-fn draw_units(used: &[u32], stop: &[u32], base: usize, area: u32) {
+fn draw_units(
+    rt: &impl Print,
+    used: &[u32],
+    stop: &[u32],
+    base: usize,
+    area: u32,
+) -> io::Result<()> {
     let end = area as usize;
     let mut last = FREE;
     let mut rows: u64 = 0;
@@ -137,21 +149,21 @@ fn draw_units(used: &[u32], stop: &[u32], base: usize, area: u32) {
         let to = numbers::lesser(i + 64, end);
         let kind = row_kind(used, stop, base, i, to);
         if kind != last {
-            passed(last, rows);
+            passed(rt, last, rows)?;
             rows = 0;
         }
         if kind == START {
-            draw_row(used, stop, base, i, to);
+            draw_row(rt, used, stop, base, i, to)?;
         } else {
             rows = std::num::wrapping_add_u64(rows, 1);
         }
         last = kind;
         i += 64;
     }
-    passed(last, rows);
+    passed(rt, last, rows)
 }
 
-fn draw_numbers(b: Block, age: usize) {
+fn draw_numbers(rt: &impl Print, b: Block, age: usize) -> io::Result<()> {
     let numbers = [
         age as u64,
         b.base,
@@ -165,55 +177,60 @@ fn draw_numbers(b: Block, age: usize) {
         b.largest as u64,
     ];
     form(
+        rt,
         b"block @: address @, size @, pool @, slot @, used @ of @, window @ to @, largest @",
         &numbers,
-    );
+    )
 }
 
-fn draw_flags(flags: u32) {
+fn draw_flags(rt: &impl Print, flags: u32) -> io::Result<()> {
     if flags & Block::FLAG_EMPTY != 0 {
-        io::write_all(1, b", empty");
+        rt.write_all(b", empty")?;
     }
     if flags & Block::FLAG_DIRTY != 0 {
-        io::write_all(1, b", dirty");
+        rt.write_all(b", dirty")?;
     }
-    byte(b'\n');
+    byte(rt, b'\n')
 }
 
-fn draw_block(b: Block, age: usize, w: usize, used: &[u32], stop: &[u32]) {
-    draw_numbers(b, age);
-    draw_flags(b.flags);
-    draw_units(used, stop, show::slot_base(b.slot, w), b.area);
+fn draw_block(
+    rt: &impl Print,
+    b: Block,
+    age: usize,
+    w: usize,
+    used: &[u32],
+    stop: &[u32],
+) -> io::Result<()> {
+    draw_numbers(rt, b, age)?;
+    draw_flags(rt, b.flags)?;
+    draw_units(rt, used, stop, show::slot_base(b.slot, w), b.area)
 }
 
-fn draw_head(s: State) {
+fn draw_head(rt: &impl Print, s: State) -> io::Result<()> {
     let numbers = [s.live, s.count as u64, s.slots as u64, s.w as u64];
-    form(b"live spans @, blocks @, slots @ of @ words\n", &numbers);
+    form(
+        rt,
+        b"live spans @, blocks @, slots @ of @ words\n",
+        &numbers,
+    )
 }
 
-fn draw(s: State, used: &[u32], stop: &[u32]) {
-    draw_head(s);
-    let mut i: usize = 0;
-    while i < 64 {
+fn draw(rt: &impl Print, s: State, used: &[u32], stop: &[u32]) -> io::Result<()> {
+    draw_head(rt, s)?;
+    for i in 0..state::SLOT_LIMIT {
         if i < s.count {
-            draw_block(s.blocks[i], i, s.w, used, stop);
+            draw_block(rt, s.blocks[i], i, s.w, used, stop)?;
         }
-        i += 1;
     }
+    Ok(())
 }
 
-fn main() {
-    let file = feed::open();
-    if file < 0 {
-        return;
-    }
+fn main(rt: HostRuntime) -> io::Result<()> {
+    let mut source = feed::open(&rt)?;
     let mut used = feed::map_words();
     let mut stop = feed::map_words();
-    let mut buffer = io::buffer();
-    let mut out = io::large_buffer();
-    let f = play_all(file, &mut used, &mut stop, &mut buffer, &mut out);
-    if f.failed {
-        return;
-    }
-    draw(f.state, &used, &stop);
+    let mut buffer = [0u8; 4096];
+    let mut out = [0u8; 65536];
+    let f = play_all(&mut source, &mut used, &mut stop, &mut buffer, &mut out)?;
+    draw(&rt, f.state, &used, &stop)
 }

@@ -6,7 +6,7 @@ ghost use Rattle.records.specs.Bytes.{u16_at, u32_at, u64_at};
 ghost use Rattle.records.specs.Records.{payload_of, Holds, asked_of, call_of, record_of};
 
 // What a creation asks for.
-#[derive(Drop)]
+#[derive(Clone, Copy)]
 pub struct Asked {
     pub size: u32,
     pub granularity: u32,
@@ -16,7 +16,7 @@ pub struct Asked {
     pub length: u64,
 }
 
-#[derive(Drop)]
+#[derive(Clone, Copy)]
 pub enum Call {
     Create(Asked),
     Alloc(u64),

@@ -3,6 +3,8 @@
 
 ghost use Rattle.std.specs.Prelude.{◌≡◌, ◌*◌, ◌≤◌, ◌<◌, get_or};
 
+use std::io;
+
 // ---- lines
 
 // The room of a line: a short word and 14 numbers. What does not fit is left out.
@@ -26,10 +28,8 @@ fn put_number(out: &mut [u8], at: usize, n: u64) -> usize {
 
 fn put_numbers(out: &mut [u8], at: usize, numbers: &[u64]) -> usize {
     let mut end = at;
-    let mut i: usize = 0;
-    while i < numbers.len() {
-        end = put_number(out, end, numbers[i]);
-        i += 1;
+    for n in numbers {
+        end = put_number(out, end, *n);
     }
     end
 }
@@ -42,23 +42,24 @@ fn put_end(out: &mut [u8], at: usize) -> usize {
 }
 
 // Writes the bytes up to `end`, in one write.
-pub fn front(out: &[u8], end: usize) {
+pub fn front(rt: &impl Print, out: &[u8], end: usize) -> io::Result<()> {
     if end <= out.len() {
-        io::write_all(libc::STDOUT_FILENO, &out[..end]);
+        rt.write_all(&out[..end])?;
     }
+    Ok(())
 }
 
-fn write_line(out: &mut [u8], word: &[u8], numbers: &[u64]) {
+fn write_line(rt: &impl Print, out: &mut [u8], word: &[u8], numbers: &[u64]) -> io::Result<()> {
     let mut end = put_word(out, word);
     end = put_numbers(out, end, numbers);
     end = put_end(out, end);
-    front(out, end);
+    front(rt, out, end)
 }
 
 // Writes a word and numbers as a line, in one write.
-pub fn line(word: &[u8], numbers: &[u64]) {
+pub fn line(rt: &impl Print, word: &[u8], numbers: &[u64]) -> io::Result<()> {
     let mut out: [u8; 320] = [0; ROOM];
-    write_line(&mut out, word, numbers);
+    write_line(rt, &mut out, word, numbers)
 }
 
 // ---- words

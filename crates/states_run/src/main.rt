@@ -3,26 +3,41 @@
 // is written.
 #![tactic(auto)]
 
-ghost use Rattle.std.specs.Prelude.{◌≡◌, length};
+ghost use Rattle.std.specs.Prelude.{◌≡◌, ◌≤◌, length, IfOk};
 
 use block::Block;
 use records::{Asked, Call};
 use sizes::Pool;
 use state::{Answer, State};
+use std::io;
+use std::io::Read;
 
 // ---- numbers
 
-// Reads eight bytes, the lowest first.
-fn read_u64() -> u64 {
-    let mut bytes: [u8; 8] = [0; 8];
-    io::read_full(0, &mut bytes);
-    let mut n: u64 = 0;
-    let mut i: usize = 8;
-    while 0 < i {
-        i -= 1;
-        n = n << 8 | wide(bytes[i]);
+// Reads until the buffer is full or the input ends, and returns how many bytes came.
+fn read_full<R: Read>(input: &mut R, bytes: &mut [u8]) -> io::Result<usize>
+    ensures { IfOk result (λ n. n ≤ length bytes.old) }
+{
+    let mut done: usize = 0;
+    while done < bytes.len() {
+        let more = input.read(&mut bytes[done..])?;
+        if more == 0 {
+            return Ok(done);
+        }
+        done += more;
     }
-    n
+    Ok(done)
+}
+
+// Reads eight bytes, the lowest first. Those after the input's end count as 0.
+fn read_u64<R: Read>(input: &mut R) -> io::Result<u64> {
+    let mut bytes: [u8; 8] = [0; 8];
+    read_full(input, &mut bytes)?;
+    let mut n: u64 = 0;
+    for byte in bytes.iter().rev() {
+        n = n << 8 | wide(*byte);
+    }
+    Ok(n)
 }
 
 fn wide(byte: u8) -> u64 {
@@ -30,44 +45,44 @@ fn wide(byte: u8) -> u64 {
 }
 
 // Reads eight bytes, and drops the upper half.
-fn read_u32() -> u32 {
-    (read_u64() % 4294967296) as u32
+fn read_u32<R: Read>(input: &mut R) -> io::Result<u32> {
+    Ok((read_u64(input)? % 4294967296) as u32)
 }
 
-fn read_usize() -> usize {
-    read_u64() as usize
+fn read_usize<R: Read>(input: &mut R) -> io::Result<usize> {
+    Ok(read_u64(input)? as usize)
 }
 
 // ---- a state, in
 
-fn read_pool() -> Pool {
-    let granularity = read_u64();
-    let blocks = read_u32();
-    let empty = read_u32();
-    let area = read_u32();
-    let used = read_u32();
-    Pool {
+fn read_pool<R: Read>(input: &mut R) -> io::Result<Pool> {
+    let granularity = read_u64(input)?;
+    let blocks = read_u32(input)?;
+    let empty = read_u32(input)?;
+    let area = read_u32(input)?;
+    let used = read_u32(input)?;
+    Ok(Pool {
         granularity,
         blocks,
         empty,
         area,
         used,
-    }
+    })
 }
 
 // Reads a record's numbers and its pools; it has no block yet.
-fn read_state() -> State {
-    let size = read_u64();
-    let granularity = read_u64();
-    let poolcount = read_usize();
-    let immediate = read_u64() != 0;
-    let w = read_usize();
-    let slots = read_usize();
-    let arena = read_u64();
-    let length = read_u64();
-    let live = read_u64();
-    let count = read_usize();
-    State {
+fn read_state<R: Read>(input: &mut R) -> io::Result<State> {
+    let size = read_u64(input)?;
+    let granularity = read_u64(input)?;
+    let poolcount = read_usize(input)?;
+    let immediate = read_u64(input)? != 0;
+    let w = read_usize(input)?;
+    let slots = read_usize(input)?;
+    let arena = read_u64(input)?;
+    let length = read_u64(input)?;
+    let live = read_u64(input)?;
+    let count = read_usize(input)?;
+    Ok(State {
         size,
         granularity,
         poolcount,
@@ -80,22 +95,22 @@ fn read_state() -> State {
         count,
         blocks: [state::zero_block(); state::SLOT_LIMIT],
         order: [0; state::SLOT_LIMIT],
-        pools: [read_pool(), read_pool(), read_pool()],
-    }
+        pools: [read_pool(input)?, read_pool(input)?, read_pool(input)?],
+    })
 }
 
-fn read_block() -> Block {
-    let base = read_u64();
-    let size = read_u64();
-    let pool = read_usize();
-    let slot = read_usize();
-    let flags = read_u32();
-    let area = read_u32();
-    let used = read_u32();
-    let start = read_u32();
-    let end = read_u32();
-    let largest = read_u32();
-    Block {
+fn read_block<R: Read>(input: &mut R) -> io::Result<Block> {
+    let base = read_u64(input)?;
+    let size = read_u64(input)?;
+    let pool = read_usize(input)?;
+    let slot = read_usize(input)?;
+    let flags = read_u32(input)?;
+    let area = read_u32(input)?;
+    let used = read_u32(input)?;
+    let start = read_u32(input)?;
+    let end = read_u32(input)?;
+    let largest = read_u32(input)?;
+    Ok(Block {
         base,
         size,
         pool,
@@ -106,40 +121,39 @@ fn read_block() -> Block {
         start,
         end,
         largest,
-    }
+    })
 }
 
 // Reads an index, and the entries of `order` and of `blocks` at it.
-fn put_entry(s: State) -> State {
+fn put_entry<R: Read>(input: &mut R, s: State) -> io::Result<State> {
     let mut r = s;
-    let i = read_usize();
-    let age = read_usize();
-    let b = read_block();
+    let i = read_usize(input)?;
+    let age = read_usize(input)?;
+    let b = read_block(input)?;
     if i < 64 {
         r.order[i] = age;
         r.blocks[i] = b;
     }
-    r
+    Ok(r)
 }
 
 // Reads all words of a map, as runs of equal words: each run's end, and its word.
-fn put_words(words: &mut [u32]) {
+fn put_words<R: Read>(input: &mut R, words: &mut [u32]) -> io::Result<()> {
     let mut end: usize = 0;
     let mut word: u32 = 0;
-    let mut i: usize = 0;
-    while i < words.len() {
+    for i in 0..words.len() {
         if i >= end {
-            end = read_usize();
-            word = read_u32();
+            end = read_usize(input)?;
+            word = read_u32(input)?;
         }
         words[i] = word;
-        i += 1;
     }
+    Ok(())
 }
 
 // ---- a state, out
 
-fn head_line(s: State) {
+fn head_line(rt: &impl Print, s: State) -> io::Result<()> {
     let numbers = [
         s.size,
         s.granularity,
@@ -152,10 +166,10 @@ fn head_line(s: State) {
         s.live,
         s.count as u64,
     ];
-    show::line(b"record", &numbers);
+    show::line(rt, b"record", &numbers)
 }
 
-fn pool_line(q: Pool) {
+fn pool_line(rt: &impl Print, q: Pool) -> io::Result<()> {
     let numbers = [
         q.granularity,
         q.blocks as u64,
@@ -163,13 +177,13 @@ fn pool_line(q: Pool) {
         q.area as u64,
         q.used as u64,
     ];
-    show::line(b"pool", &numbers);
+    show::line(rt, b"pool", &numbers)
 }
 
-fn show_pools(s: State) {
-    pool_line(s.pools[0]);
-    pool_line(s.pools[1]);
-    pool_line(s.pools[2]);
+fn show_pools(rt: &impl Print, s: State) -> io::Result<()> {
+    pool_line(rt, s.pools[0])?;
+    pool_line(rt, s.pools[1])?;
+    pool_line(rt, s.pools[2])
 }
 
 fn is_zero(age: usize, b: Block) -> bool {
@@ -182,7 +196,7 @@ fn is_zero(age: usize, b: Block) -> bool {
     b.flags | b.area | b.used | b.start | b.end | b.largest == 0
 }
 
-fn entry_line(i: usize, age: usize, b: Block) {
+fn entry_line(rt: &impl Print, i: usize, age: usize, b: Block) -> io::Result<()> {
     let numbers = [
         i as u64,
         age as u64,
@@ -197,76 +211,71 @@ fn entry_line(i: usize, age: usize, b: Block) {
         b.end as u64,
         b.largest as u64,
     ];
-    show::line(b"entry", &numbers);
+    show::line(rt, b"entry", &numbers)
 }
 
-fn show_entry(i: usize, age: usize, b: Block) {
+fn show_entry(rt: &impl Print, i: usize, age: usize, b: Block) -> io::Result<()> {
     if !is_zero(age, b) {
-        entry_line(i, age, b);
+        entry_line(rt, i, age, b)?;
     }
+    Ok(())
 }
 
-fn show_entries(s: State) {
-    let mut i: usize = 0;
-    while i < state::SLOT_LIMIT {
-        show_entry(i, s.order[i], s.blocks[i]);
-        i += 1;
+fn show_entries(rt: &impl Print, s: State) -> io::Result<()> {
+    for i in 0..state::SLOT_LIMIT {
+        show_entry(rt, i, s.order[i], s.blocks[i])?;
     }
+    Ok(())
 }
 
-fn word_line(name: &[u8], i: usize, word: u32) {
-    io::write_all(1, name);
-    io::write_all(1, b" ");
-    io::print_decimal(1, i as u64);
-    io::write_all(1, b" ");
-    io::print_hex(1, word as u64, 8);
-    io::write_all(1, b"\n");
+fn word_line(rt: &impl Print, name: &[u8], i: usize, word: u32) -> io::Result<()> {
+    rt.write_all(name)?;
+    println!(rt; " {i} {word:08x}")
 }
 
 // Writes each word that differs from the one before it; the first is compared with 0.
-fn show_words(name: &[u8], words: &[u32]) {
+fn show_words(rt: &impl Print, name: &[u8], words: &[u32]) -> io::Result<()> {
     let mut before: u32 = 0;
-    let mut i: usize = 0;
-    while i < words.len() {
+    for i in 0..words.len() {
         let word = words[i];
         if word != before {
-            word_line(name, i, word);
+            word_line(rt, name, i, word)?;
         }
         before = word;
-        i += 1;
     }
+    Ok(())
 }
 
 // ---- cases
 
-fn read_asked() -> Asked {
-    let size = read_u32();
-    let granularity = read_u32();
-    let flags = read_u32();
-    let w = read_u32();
-    let arena = read_u64();
-    let length = read_u64();
-    Asked {
+fn read_asked<R: Read>(input: &mut R) -> io::Result<Asked> {
+    let size = read_u32(input)?;
+    let granularity = read_u32(input)?;
+    let flags = read_u32(input)?;
+    let w = read_u32(input)?;
+    let arena = read_u64(input)?;
+    let length = read_u64(input)?;
+    Ok(Asked {
         size,
         granularity,
         flags,
         w,
         arena,
         length,
-    }
+    })
 }
 
 // Reads a call by its kind in a trace.
-fn read_call(kind: u64) -> Call {
-    match kind {
-        1 => Call::Create(read_asked()),
-        2 => Call::Alloc(read_u64()),
-        3 => Call::Release(read_u64()),
-        4 => Call::Shrink(read_u64(), read_u64()),
-        5 => Call::Query(read_u64()),
+fn read_call<R: Read>(input: &mut R, kind: u64) -> io::Result<Call> {
+    Ok(match kind {
+        1 => Call::Create(read_asked(input)?),
+        2 => Call::Alloc(read_u64(input)?),
+        3 => Call::Release(read_u64(input)?),
+        4 => Call::Shrink(read_u64(input)?, read_u64(input)?),
+        5 => Call::Query(read_u64(input)?),
         6 => Call::SoftReset,
         _ => Call::HardReset,
-    }
+    })
 }
 
 // Returns the state to hand to a call: zeros for a creation. If a creation is refused, `calls` returns the state before it, but a case must
@@ -278,68 +287,93 @@ fn before(s: State, kind: u64) -> State {
     s
 }
 
-fn answer_line(out: &mut [u8], answer: Answer) {
+fn answer_line(rt: &impl Print, out: &mut [u8], answer: Answer) -> io::Result<()> {
     if out.len() >= text::LINE {
         let end = lines::put_answer(out, 0, answer);
-        show::front(out, end);
+        show::front(rt, out, end)?;
     }
+    Ok(())
 }
 
-fn play_call(s: State, used: &mut [u32], stop: &mut [u32], kind: u64) -> State {
-    let o = calls::call(before(s, kind), used, stop, read_call(kind));
+fn play_call<R: Read>(
+    rt: &impl Print,
+    input: &mut R,
+    s: State,
+    used: &mut [u32],
+    stop: &mut [u32],
+    kind: u64,
+) -> io::Result<State> {
+    let o = calls::call(before(s, kind), used, stop, read_call(input, kind)?);
     let answer = o.answer;
     let mut out: [u8; 80] = [0; 80];
-    answer_line(&mut out, answer);
-    o.state
+    answer_line(rt, &mut out, answer)?;
+    Ok(o.state)
 }
 
-fn show_all(s: State, used: &[u32], stop: &[u32]) {
-    head_line(s);
-    show_pools(s);
-    show_entries(s);
-    show_words(b"used", used);
-    show_words(b"stop", stop);
+fn show_all(rt: &impl Print, s: State, used: &[u32], stop: &[u32]) -> io::Result<()> {
+    head_line(rt, s)?;
+    show_pools(rt, s)?;
+    show_entries(rt, s)?;
+    show_words(rt, b"used", used)?;
+    show_words(rt, b"stop", stop)
 }
 
 // Plays a step: makes a call, puts an entry into the lists, or shows all that isn't zero.
-fn play(s: State, used: &mut [u32], stop: &mut [u32], kind: u64) -> State {
+fn play<R: Read>(
+    rt: &impl Print,
+    input: &mut R,
+    s: State,
+    used: &mut [u32],
+    stop: &mut [u32],
+    kind: u64,
+) -> io::Result<State> {
     if kind == 8 {
-        return put_entry(s);
+        return put_entry(input, s);
     }
     if kind == 9 {
-        show_all(s, used, stop);
-        return s;
+        show_all(rt, s, used, stop)?;
+        return Ok(s);
     }
-    play_call(s, used, stop, kind)
+    play_call(rt, input, s, used, stop, kind)
 }
 
 // Bounds the loops, so that they end whatever the input is.
 const TURNS: u32 = 1000000;
 
-fn play_steps(used: &mut [u32], stop: &mut [u32]) {
-    put_words(used);
-    put_words(stop);
-    let mut s = read_state();
-    let mut left: u32 = TURNS;
-    while 0 < left {
-        let kind = read_u64();
+fn play_steps<R: Read>(
+    rt: &impl Print,
+    input: &mut R,
+    used: &mut [u32],
+    stop: &mut [u32],
+) -> io::Result<()> {
+    put_words(input, used)?;
+    put_words(input, stop)?;
+    let mut s = read_state(input)?;
+    for _ in 0..TURNS {
+        let kind = read_u64(input)?;
         if kind == 0 {
-            return;
+            return Ok(());
         }
-        s = play(s, used, stop, kind);
-        left -= 1;
+        s = play(rt, input, s, used, stop, kind)?;
     }
+    Ok(())
 }
 
 // Reads the lengths of the case's slices, and plays its steps on so many words.
-fn play_lent(used: &mut [u32], stop: &mut [u32]) {
-    let u = read_usize();
-    let t = read_usize();
+fn play_lent<R: Read>(
+    rt: &impl Print,
+    input: &mut R,
+    used: &mut [u32],
+    stop: &mut [u32],
+) -> io::Result<()> {
+    let u = read_usize(input)?;
+    let t = read_usize(input)?;
     if u <= used.len() {
         if t <= stop.len() {
-            play_steps(&mut used[..u], &mut stop[..t]);
+            play_steps(rt, input, &mut used[..u], &mut stop[..t])?;
         }
     }
+    Ok(())
 }
 
 // 64 slots of 4,096 words: blocks of 32 MiB in units of 256 bytes.
@@ -350,26 +384,26 @@ fn map_words() -> [u32; 262144]
 }
 
 // Copies the case's label, a line of 64 bytes, to the output.
-fn label_line() {
+fn label_line<R: Read>(rt: &impl Print, input: &mut R) -> io::Result<()> {
     let mut bytes: [u8; 64] = [0; 64];
-    let n = io::read_full(0, &mut bytes);
-    io::write_all(1, &bytes[..n]);
+    let n = read_full(input, &mut bytes)?;
+    rt.write_all(&bytes[..n])
 }
 
-fn play_case() {
-    label_line();
+fn play_case<R: Read>(rt: &impl Print, input: &mut R) -> io::Result<()> {
+    label_line(rt, input)?;
     let mut used = map_words();
     let mut stop = map_words();
-    play_lent(&mut used, &mut stop);
+    play_lent(rt, input, &mut used, &mut stop)
 }
 
-fn main() {
-    let mut left: u32 = TURNS;
-    while 0 < left {
-        if read_u64() == 0 {
-            return;
+fn main(rt: HostRuntime) -> io::Result<()> {
+    let mut input = rt.stdin();
+    for _ in 0..TURNS {
+        if read_u64(&mut input)? == 0 {
+            return Ok(());
         }
-        play_case();
-        left -= 1;
+        play_case(&rt, &mut input)?;
     }
+    Ok(())
 }
