@@ -5,7 +5,7 @@ use Rattle.records.specs.declared.Record.{Record}
 use Rattle.records.specs.declared.Record.TheVariants.{Cut, Bad, Whole}
 use Rattle.records.specs.Records.{record_of}
 use Rattle.records.proofs.Ways.{whole_size}
-use Rattle.trace.specs.Play.{Run, after_record, play, Plays}
+use Rattle.trace.specs.Play.{after_record, play, Plays}
 
 -- the maps are as they were
 abbrev pub SameMaps : List ℕ → List ℕ → List ℕ → List ℕ → Type 0

@@ -1,6 +1,6 @@
 -- `play` takes at most the bytes lent to it, which are those that wait, and writes at most the length of `out`. `go_on`, `last` and
 -- `read_on` keep both bounds. A read comes only after `play` took nothing, and then it made no call. Assumes nothing.
-use Rattle.std.proofs.Common.{◌≡◌, ℕ, arith}
+use Rattle.std.proofs.Common.{◌≡◌, arith}
 use Rattle.std.specs.Prelude.{Result, Ok, Err, OnErr}
 use Rattle.feed.proofs.Nothing.{nothing_played}
 use Rattle.feed.proofs.turn.Goals as goal
