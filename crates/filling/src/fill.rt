@@ -28,6 +28,7 @@ pub fn fill_made(image: &mut [u8], arena: u64, before: usize, r: State, pattern:
 }
 
 // Fills the bytes of a released span.
+#[tactic(auto, unfolding(crate::specs::Unused::filled_image))]
 pub fn fill_freed(image: &mut [u8], arena: u64, answer: Answer, pattern: u32)
     requires { AllInArena arena (length image.old) (freed answer) }
     ensures { image.new ≡ filled_image arena pattern image.old (freed answer) }
@@ -38,6 +39,7 @@ pub fn fill_freed(image: &mut [u8], arena: u64, answer: Answer, pattern: u32)
 }
 
 // Fills the bytes after the shortened span `x`, up to the end that the query `was` showed before.
+#[tactic(auto, unfolding(crate::specs::Unused::filled_image))]
 fn fill_behind(image: &mut [u8], arena: u64, was: Answer, x: Span, pattern: u32)
     requires { AllInArena arena (length image.old) (tail_of x was) }
     ensures { image.new ≡ filled_image arena pattern image.old (tail_of x was) }
@@ -50,6 +52,7 @@ fn fill_behind(image: &mut [u8], arena: u64, was: Answer, x: Span, pattern: u32)
 }
 
 // Fills the bytes that a shrink cut off.
+#[tactic(auto, unfolding(crate::specs::Unused::filled_image))]
 pub fn fill_cut_off(image: &mut [u8], arena: u64, was: Answer, answer: Answer, pattern: u32)
     requires { AllInArena arena (length image.old) (cut_off was answer) }
     ensures { image.new ≡ filled_image arena pattern image.old (cut_off was answer) }
@@ -73,6 +76,7 @@ fn fill_blocks(image: &mut [u8], arena: u64, r: State, pattern: u32)
 }
 
 // Fills all bytes of the blocks that a reset kept.
+#[tactic(auto, unfolding(crate::specs::Unused::filled_image))]
 pub fn fill_kept(image: &mut [u8], arena: u64, r: State, answer: Answer, pattern: u32)
     requires { (answer ≡ Reset → r.count ≤ slot_limit) × AllInArena arena (length image.old) (kept_bytes r answer) }
     ensures { image.new ≡ filled_image arena pattern image.old (kept_bytes r answer) }
