@@ -28,7 +28,7 @@ pub enum Call {
 }
 
 // What some bytes start with: too little to be a record, something that is none of document 01's, or a whole record: its length and call.
-#[derive(Drop)]
+#[derive(Clone, Copy)]
 pub enum Record {
     Cut,
     Bad,
@@ -36,7 +36,7 @@ pub enum Record {
 }
 
 // The payload length of a kind of record.
-#[derive(Drop)]
+#[derive(Clone, Copy)]
 pub enum Payload {
     Bytes(usize),
     Unknown,

@@ -10,7 +10,7 @@ ghost use Rattle.std.specs.Prelude.{◌≡◌, ◌*◌, ◌^◌, ◌<◌, ◌≤
 ghost use Rattle.bits.specs.Walk.{Seen};
 
 // Where a walk stands: the index of a word, that word's free units still to visit as ones, and the window's end.
-#[derive(Drop)]
+#[derive(Clone, Copy)]
 pub struct Walk {
     pub at: usize,
     pub word: u32,
@@ -18,7 +18,7 @@ pub struct Walk {
 }
 
 // The next run, from its first unit up to its end, and where the walk goes on; or no run is left.
-#[derive(Drop)]
+#[derive(Clone, Copy)]
 pub enum Next {
     Run(usize, usize, Walk),
     Done,
@@ -41,7 +41,7 @@ pub fn start_walk(words: &[u32], start: usize, end: usize) -> Walk
 
 // The result of a search in a window: the lowest place; or else the window's first free unit, the end of its last free run and the length
 // of its longest; or that no unit is free.
-#[derive(Drop)]
+#[derive(Clone, Copy)]
 pub enum Search {
     At(usize),
     Tight(usize, usize, usize),

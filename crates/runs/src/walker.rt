@@ -3,7 +3,7 @@ ghost use Rattle.runs.specs.Walk.{Stands, StepAnswer};
 
 use crate::Next;
 
-#[derive(Drop)]
+#[derive(Clone, Copy)]
 pub struct BitVectorRangeIterator<'a> {
     pub slice: &'a [u32],
     pub at: usize,

@@ -10,7 +10,7 @@ use records::Record;
 use state::State;
 
 // How far a play came: the state, the bytes taken and written, and whether a bad record follows those taken.
-#[derive(Drop)]
+#[derive(Clone, Copy)]
 pub struct Played {
     pub state: State,
     pub taken: usize,
