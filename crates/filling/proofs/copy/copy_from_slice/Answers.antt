@@ -1,5 +1,5 @@
 -- A span that the query shows lies in the arena (`looked_lies`), as `write` requires, whose answer and image are the definition's. If the
--- query shows none, answer and image stay as they are, as in the definition (`not_shown`). Assumes nothing.
+-- query shows none, answer and image stay as they are, as in the definition. Assumes nothing.
 use mathlib.Core.Path.{sym, subst, ◌∙◌}
 use lib.ListN.{length}
 use Rattle.filling.proofs.Copying.{IfShown, LiesWithin, looked_lies}
