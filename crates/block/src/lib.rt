@@ -5,12 +5,12 @@ pub mod look;
 pub mod mark;
 
 ghost use Rattle.std.specs.Prelude.{◌≡◌, ◌+◌, ◌-◌, ◌<◌, ◌≤◌, min, max};
-ghost use Rattle.block.specs.Record.{SpanIn};
+ghost use Rattle.block.specs.Record.{SpanIn, empty_flag, is_on};
 ghost use Rattle.block.specs.Marking.{moved, marked, released, shrunk, fresh};
 
 // A block of `area` units from address `base` on. Its bits are in slot `slot` of both maps. `start` and `end` are its search window,
 // and `largest` is the longest free run that a search has seen.
-#[derive(Clone, Copy)]
+#[derive(Clone, Copy, PartialEq, Eq, Default)]
 pub struct Block {
     pub base: u64,
     pub size: u64,
@@ -29,6 +29,13 @@ impl Block {
     pub const FLAG_EMPTY: u32 = 1;
     // `largest` may be out of date.
     pub const FLAG_DIRTY: u32 = 2;
+
+    // True if the flag says that no unit is used.
+    pub fn is_empty(&self) -> bool
+        ensures { result ≡ is_on self.now.flags empty_flag }
+    {
+        self.flags & Block::FLAG_EMPTY != 0
+    }
 }
 
 fn lesser(a: u32, b: u32) -> u32

@@ -16,7 +16,7 @@ use Rattle.state.specs.declared.State.{State}
 use Rattle.state.specs.Table.{block_at, pool_at, all, sum}
 use Rattle.state.specs.Shape.{is_empty, empties_of, arena_ok, numbers_ok, zero_ok, good_shape}
 use Rattle.state.proofs.Tests.{all_of, pairs_of}
-use Rattle.shape.specs.Parts.{head_ok, block_ok, block_ok_in, same_pool, pool_sum, pool_matches, slots_apart, table_ok}
+use Rattle.shape.specs.Parts.{head_ok, block_ok, same_pool, pool_sum, pool_matches, slots_apart, table_ok}
 use Rattle.shape.specs.Facts.{Headed, Lent, ShapedBlockIn}
 use Rattle.shape.specs.Shaped.{Shaped, Enough}
 use Rattle.shape.proofs.Head.{head_of}
@@ -53,24 +53,24 @@ empty_test : (e : Bool) (n : ℕ) → (e ≡ true → n ≡ 0) → (n ≡ 0 → 
 empty_test true n f g = eq-eqb n 0 (f refl)
 empty_test false n f g = not_of_false (eqb n 0) (ne_eqb n 0 (λ q. not_both false (g q) refl))
 
-block_test : (s : State) (b : Block) → ShapedBlockIn s b → block_ok_in s b ≡ true
+block_test : (s : State) (b : Block) → ShapedBlockIn s b → block_ok s b ≡ true
 unfolding block_ok
 block_test s b k =
-    and_both _ _ (lt-ltb b.slot s.slots k.slot)
-    (and_both _ _ (lt-ltb b.pool s.poolcount k.pool)
+    and_both _ _ (and_both _ _ (lt-ltb b.slot s.slots k.slot) (lt-ltb b.pool s.poolcount k.pool))
     (and_both _ _ (eq-eqb (b.base % 65536) 0 k.base)
+    (and_both _ _
     (and_both _ _ (not-zero_test b.area k.area_low)
     (and_both _ _ (eq-eqb (b.area % 32) 0 k.area_whole)
     (and_both _ _ (eq-eqb (b.area * s.granularity) b.size k.area_size)
-    (and_both _ _ (le-leb b.area (32 * s.w) k.area_high)
+    (and_both _ _ (le-leb b.area (32 * s.w) k.area_high) refl))))
+    (and_both _ _
     (and_both _ _ (le-leb b.used b.area k.used)
     (and_both _ _ (le-leb b.start b.area k.start)
     (and_both _ _ (le-leb b.end b.area k.end)
-    (and_both _ _ (le-leb b.largest b.area k.largest)
-    (and_both _ _ (le-leb s.arena b.base k.above)
-    (and_both _ _ (le-leb (b.base + b.size) (s.arena + s.length) k.below)
+    (and_both _ _ (le-leb b.largest b.area k.largest) refl))))
+    (and_both _ _ (and_both _ _ (le-leb s.arena b.base k.above) (le-leb (b.base + b.size) (s.arena + s.length) k.below))
     (and_both _ _ (empty_test (is_empty b) b.used k.empty_unused k.unused_empty)
-    (and_both _ _ (le-leb b.flags 3 k.flags) refl))))))))))))))
+    (and_both _ _ (le-leb b.flags 3 k.flags) refl))))))
 
 same_test_pool : (a b : Pool) → a ≡ b → same_pool a b ≡ true
 same_test_pool a b e =
@@ -84,7 +84,7 @@ module _ (s : State) (u t : ℕ) (k : Enough s u t) where
   table_test : table_ok s ≡ true
   unfolding table_ok
   table_test =
-      and_both _ _ (all_of s.count (λ i. block_ok_in s (block_at s i)) (λ i l. block_test s (block_at s i) (k.sound i l)))
+      and_both _ _ (all_of s.count (λ i. block_ok s (block_at s i)) (λ i l. block_test s (block_at s i) (k.sound i l)))
       (and_both _ _
       (pairs_of s.count (slots_apart s)
       (λ i j h l. not_of_false (eqb (block_at s i).slot (block_at s j).slot) (ne_eqb (block_at s i).slot (block_at s j).slot (k.slots_apart i j h l))))

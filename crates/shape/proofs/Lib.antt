@@ -6,6 +6,7 @@ pub mod Pigeon
 pub mod Order
 pub mod Address
 pub mod Walk
+pub mod Chains
 pub mod Zeros
 pub mod Whole
 pub mod Shaped

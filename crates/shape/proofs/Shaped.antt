@@ -14,13 +14,13 @@ use Rattle.state.specs.declared.State.{State}
 use Rattle.state.specs.Table.{block_at, age_at, pool_at, sum}
 use Rattle.state.specs.Shape.{pool_ok, empties_ok, empties_of, good_shape}
 use Rattle.state.proofs.Tests.{every_at, all_at, pairs_at}
-use Rattle.shape.specs.Parts.{block_ok_in, same_pool, pool_sum, pool_matches, slots_apart, table_ok}
+use Rattle.shape.specs.Parts.{block_ok, same_pool, pool_sum, pool_matches, slots_apart, table_ok}
 use Rattle.shape.specs.Facts.{ShapedBlockIn}
 use Rattle.shape.specs.Shaped.{Shaped}
 use Rattle.shape.proofs.Head.{headed, lent}
-use Rattle.shape.proofs.OneBlock.{sized}
+use Rattle.shape.proofs.OneBlock.{sound, sized}
 use Rattle.shape.proofs.Pigeon.{place}
-use Rattle.shape.proofs.Walk.{table_tests, sound_in}
+use Rattle.shape.proofs.Walk.{table_tests}
 use Rattle.shape.proofs.Address.{once, ages_low, pair_apart, behind}
 use Rattle.shape.proofs.Zeros.{block-zero, age-zero}
 use Rattle.shape.proofs.Whole.{good_head, good_table, good_layout}
@@ -52,7 +52,7 @@ module _ (s : State) (good : table_ok s ≡ true) where
   at k = every_at (table_tests s) k good
 
   pub table_sound : (i : ℕ) → i < s.count → ShapedBlockIn s (block_at s i)
-  table_sound i l = sound_in s (block_at s i) (all_at s.count (λ i. block_ok_in s (block_at s i)) i (at 0) l)
+  table_sound i l = sound s (block_at s i) (all_at s.count (λ i. block_ok s (block_at s i)) i (at 0) l)
 
   pub table_slots : (i j : ℕ) → i < j → j < s.count → (block_at s i).slot ≡ (block_at s j).slot → ⊥
   table_slots i j h l =

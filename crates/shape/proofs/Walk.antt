@@ -5,19 +5,19 @@ use mathlib.Core.Bool.{Bool, true, false, ◌&&◌, and-true}
 use mathlib.Core.List.{List, [], ◌∷◌}
 use native.Mathlib.Omega.{arith}
 use lib.Dec.{leb, eqb}
-use lib.ListN.{length, get_or, set, replicate, length-set, length-replicate, get_or-replicate}
+use lib.ListN.{length, get_or, set, take, replicate, length-set, length-replicate, get_or-replicate}
+use Rattle.std.proofs.Common.{length-take, get_or-take}
 use lib.Seq.{get_or-set_same, get_or-set_other}
 use borrow.Author.Tests.{eq-eqb, ne_eqb}
 use Rattle.numbers.proofs.Bools.{not_both, not_of_true, not_of_false, and_then}
 use Rattle.numbers.proofs.Split.{by_eq}
-use Rattle.block.specs.declared.Block.{Block}
 use Rattle.sizes.specs.declared.Pool.{Pool}
 use Rattle.sizes.specs.Pools.{fresh_pool}
 use Rattle.state.specs.declared.State.{State}
-use Rattle.state.specs.Table.{block_at, pool_at, all, all_pairs, sum, one, only}
+use Rattle.state.specs.Table.{zero_block, block_at, pool_at, all, all_pairs, sum, one, only}
 use Rattle.state.specs.Shape.{in_pool, is_empty, live_ok}
 use Rattle.state.proofs.Tests.{every_fails, all_of, all_fails, pairs_of, pairs_fail, sum_more, sum_bound}
-use Rattle.shape.specs.Parts.{block_ok_in, counted, pool_sum, pool_matches, slots_apart, table_ok}
+use Rattle.shape.specs.Parts.{block_ok, counted, pool_sum, pool_matches, slots_apart, table_ok}
 use Rattle.shape.specs.Facts.{Headed, ShapedBlockIn, Countable}
 use Rattle.shape.proofs.Slots.{none_seen, mark_stays}
 use Rattle.shape.proofs.Sums.{one-le, only-le, no_sums, sum_in, sum_out}
@@ -28,20 +28,25 @@ slot_of s i = (block_at s i).slot
 
 abbrev pub table_tests : State → List Bool
 table_tests s =
-    all s.count (λ i. block_ok_in s (block_at s i))
+    all s.count (λ i. block_ok s (block_at s i))
     ∷ all_pairs s.count (slots_apart s)
     ∷ all 3 (λ p. pool_matches (pool_at s p) (pool_sum s s.count p) s.immediate)
     ∷ live_ok s
     ∷ []
 
-pub sound_in : (s : State) (b : Block) → block_ok_in s b ≡ true → ShapedBlockIn s b
-sound_in s b e = sound s.granularity s.poolcount s.w s.slots s.arena s.length b e
+-- the walk goes over the list up to the last block
+module _ (s : State) (i : ℕ) (more : i < length (take s.count s.blocks)) where
+  pub stands : i < s.count
+  stands = omega (arith, length-take s.count s.blocks)
+
+  pub at_place : get_or (take s.count s.blocks) i zero_block ≡ block_at s i
+  at_place = get_or-take s.count s.blocks i zero_block stands
 
 pub record Walked (s : State) (i : ℕ) (seen : List Bool) (pools : List Pool) (total : ℕ) : Type 0 where
   pub here : i ≤ s.count
   pub seen_64 : length seen ≡ 64
   pub pools_3 : length pools ≡ 3
-  pub fine : (j : ℕ) → j < i → block_ok_in s (block_at s j) ≡ true
+  pub fine : (j : ℕ) → j < i → block_ok s (block_at s j) ≡ true
   -- a slot is marked exactly if a block before has it
   pub was : (k : ℕ) → get_or seen k false ≡ true → (j : ℕ) × (j < i) × (slot_of s j ≡ k)
   pub has : (j : ℕ) → j < i → get_or seen (slot_of s j) false ≡ true
@@ -70,17 +75,17 @@ walk_start s = record {
 -- ---- block i, before it is counted
 module _ {s : State} {i : ℕ} {seen : List Bool} {pools : List Pool} {total : ℕ} (head : Headed s) (at : Walked s i seen pools total) (more : i < s.count) where
   small_area : (j : ℕ) → j < i → (block_at s j).area ≤ 524288
-  small_area j l = omega (arith, (sound_in s (block_at s j) (at.fine j l)).area_high, head.w_high)
+  small_area j l = omega (arith, (sound s (block_at s j) (at.fine j l)).area_high, head.w_high)
 
   small_used : (j : ℕ) → j < i → (block_at s j).used ≤ 524288
-  small_used j l = omega (arith, small_area j l, (sound_in s (block_at s j) (at.fine j l)).used)
+  small_used j l = omega (arith, small_area j l, (sound s (block_at s j) (at.fine j l)).used)
 
   pub total_low : total ≤ 33554432
   total_low = omega (arith, at.total_is, sum_bound i 524288 (λ j. (block_at s j).used) small_used, head.count_slots, head.slots_high)
 
-  module _ (good : block_ok_in s (block_at s i) ≡ true) where
+  module _ (good : block_ok s (block_at s i) ≡ true) where
     this : ShapedBlockIn s (block_at s i)
-    this = sound_in s (block_at s i) good
+    this = sound s (block_at s i) good
 
     pub slot_low : slot_of s i < length seen
     slot_low = omega (arith, this.slot, head.slots_high, at.seen_64)
@@ -116,7 +121,7 @@ module _ {s : State} {i : ℕ} {seen : List Bool} {pools : List Pool} {total : �
       here = omega arith;
       seen_64 = length-set seen (slot_of s i) true ∙ at.seen_64;
       pools_3 = length-set pools (block_at s i).pool (counted (get_or pools (block_at s i).pool (fresh_pool 0)) (block_at s i)) ∙ at.pools_3;
-      fine = λ j l. by_eq j i (λ q. ap (λ (n : ℕ). block_ok_in s (block_at s n)) q ∙ good) (λ ne. at.fine j (omega (arith, ne)));
+      fine = λ j l. by_eq j i (λ q. ap (λ (n : ℕ). block_ok s (block_at s n)) q ∙ good) (λ ne. at.fine j (omega (arith, ne)));
       was = λ k e.
           by_eq k (slot_of s i)
           (λ q. (i, omega arith, sym q))
@@ -142,9 +147,9 @@ module _ {s : State} {i : ℕ} {seen : List Bool} {pools : List Pool} {total : �
     }
 
 -- a block that fails
-pub block_fails : (s : State) (i : ℕ) → i < s.count → block_ok_in s (block_at s i) ≡ false → table_ok s ≡ false
+pub block_fails : (s : State) (i : ℕ) → i < s.count → block_ok s (block_at s i) ≡ false → table_ok s ≡ false
 unfolding table_ok
-block_fails s i l e = every_fails (table_tests s) 0 (all_fails s.count (λ j. block_ok_in s (block_at s j)) i l e)
+block_fails s i l e = every_fails (table_tests s) 0 (all_fails s.count (λ j. block_ok s (block_at s j)) i l e)
 
 -- ---- the end
 module _ {s : State} {seen : List Bool} {pools : List Pool} {total : ℕ} (at : Walked s s.count seen pools total) where
@@ -160,7 +165,7 @@ module _ {s : State} {seen : List Bool} {pools : List Pool} {total : ℕ} (at : 
   pub walk_done : all 3 (λ p. pool_matches (pool_at s p) (get_or pools p (fresh_pool 0)) s.immediate) ≡ true → leb s.live total ≡ table_ok s
   unfolding table_ok
   walk_done good =
-      and_then (all s.count (λ i. block_ok_in s (block_at s i))) _ _ (all_of s.count (λ i. block_ok_in s (block_at s i)) at.fine)
+      and_then (all s.count (λ i. block_ok s (block_at s i))) _ _ (all_of s.count (λ i. block_ok s (block_at s i)) at.fine)
       (and_then (all_pairs s.count (slots_apart s)) _ _
       (pairs_of s.count (slots_apart s) (λ i j h l. not_of_false (eqb (slot_of s i) (slot_of s j)) (ne_eqb (slot_of s i) (slot_of s j) (at.fresh i j h l))))
       (and_then (all 3 (λ p. pool_matches (pool_at s p) (pool_sum s s.count p) s.immediate)) _ _

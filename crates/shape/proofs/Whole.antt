@@ -1,74 +1,24 @@
 -- The parts that the code tests are, together, the clauses as they are printed. Assumes nothing.
-use Prim.Native.Nat.{ℕ, ◌+◌, ◌*◌, ◌%◌, ◌<◌}
+use Prim.Native.Nat.{ℕ, ◌<◌}
 use mathlib.Core.Path.{◌≡◌, refl}
-use mathlib.Core.Bool.{Bool, true, false, not, ◌&&◌}
-use mathlib.Core.List.{List, [], ◌∷◌}
-use lib.Dec.{leb, ltb, eqb}
+use mathlib.Core.Bool.{true, ◌&&◌}
 use lib.ListN.{get_or}
-use Rattle.numbers.proofs.Bools.{not_both, refute, same_test, and_left, and_right, and_both}
+use Rattle.numbers.proofs.Bools.{same_test, and_left, and_right, and_both}
 use Rattle.block.specs.declared.Block.{Block}
 use Rattle.state.specs.declared.State.{State}
 use Rattle.state.specs.Table.{block_at, pool_at, all}
 use Rattle.state.specs.Shape.{numbers_ok, slots_ok, place_ok, base_ok, area_ok, fields_ok, inside_ok, empty_ok, flags_ok, apart, pool_ok, empties_ok, live_ok, order_ok, zero_ok, clauses, good_shape}
 use Rattle.state.proofs.Tests.{every_at, all_at, all_of, pairs_at, pairs_of}
-use Rattle.shape.specs.Parts.{head_ok, block_tests, block_ok, block_ok_in, pool_sum, pool_matches, slots_apart, bytes_apart, table_ok, layout_ok}
+use Rattle.shape.specs.Parts.{head_ok, block_tests, block_ok, pool_sum, pool_matches, slots_apart, bytes_apart, table_ok, layout_ok}
 use Rattle.shape.proofs.Head.{head_tests}
 use Rattle.shape.proofs.Walk.{table_tests}
 use Rattle.shape.proofs.Address.{layout_tests}
 
--- ---- one block: the clauses' tests and the one test
-abbrev area_tests : State → Block → List Bool
-area_tests s b = not (eqb b.area 0) ∷ eqb (b.area % 32) 0 ∷ eqb (b.area * s.granularity) b.size ∷ leb b.area (32 * s.w) ∷ []
-
-abbrev field_tests : Block → List Bool
-field_tests b = leb b.used b.area ∷ leb b.start b.area ∷ leb b.end b.area ∷ leb b.largest b.area ∷ []
-
-block_of : (s : State) (b : Block)
-    → place_ok s b ≡ true → base_ok b ≡ true → area_ok s b ≡ true → fields_ok b ≡ true → inside_ok s b ≡ true → empty_ok b ≡ true → flags_ok b ≡ true
-    → block_ok_in s b ≡ true
-unfolding block_ok
-block_of s b place base area fields inside empty flags =
-    and_both _ _ (and_left (ltb b.slot s.slots) (ltb b.pool s.poolcount) place)
-    (and_both _ _ (and_right (ltb b.slot s.slots) (ltb b.pool s.poolcount) place)
-    (and_both _ _ base
-    (and_both _ _ (every_at (area_tests s b) 0 area)
-    (and_both _ _ (every_at (area_tests s b) 1 area)
-    (and_both _ _ (every_at (area_tests s b) 2 area)
-    (and_both _ _ (every_at (area_tests s b) 3 area)
-    (and_both _ _ (every_at (field_tests b) 0 fields)
-    (and_both _ _ (every_at (field_tests b) 1 fields)
-    (and_both _ _ (every_at (field_tests b) 2 fields)
-    (and_both _ _ (every_at (field_tests b) 3 fields)
-    (and_both _ _ (and_left (leb s.arena b.base) (leb (b.base + b.size) (s.arena + s.length)) inside)
-    (and_both _ _ (and_right (leb s.arena b.base) (leb (b.base + b.size) (s.arena + s.length)) inside)
-    (and_both _ _ empty
-    (and_both _ _ flags refl))))))))))))))
-
-module _ (s : State) (b : Block) (good : block_ok_in s b ≡ true) where
-  at : (k : ℕ) → get_or (block_tests s.granularity s.poolcount s.w s.slots s.arena s.length b) k true ≡ true
+-- ---- one block that passes
+module _ (s : State) (b : Block) (good : block_ok s b ≡ true) where
+  at : (k : ℕ) → get_or (block_tests s b) k true ≡ true
   unfolding block_ok
-  at k = every_at (block_tests s.granularity s.poolcount s.w s.slots s.arena s.length b) k good
-
-  place_good : place_ok s b ≡ true
-  place_good = and_both (ltb b.slot s.slots) (ltb b.pool s.poolcount) (at 0) (at 1)
-
-  base_good : base_ok b ≡ true
-  base_good = at 2
-
-  area_good : area_ok s b ≡ true
-  area_good = and_both _ _ (at 3) (and_both _ _ (at 4) (and_both _ _ (at 5) (and_both _ _ (at 6) refl)))
-
-  fields_good : fields_ok b ≡ true
-  fields_good = and_both _ _ (at 7) (and_both _ _ (at 8) (and_both _ _ (at 9) (and_both _ _ (at 10) refl)))
-
-  inside_good : inside_ok s b ≡ true
-  inside_good = and_both (leb s.arena b.base) (leb (b.base + b.size) (s.arena + s.length)) (at 11) (at 12)
-
-  empty_good : empty_ok b ≡ true
-  empty_good = at 13
-
-  flags_good : flags_ok b ≡ true
-  flags_good = at 14
+  at k = every_at (block_tests s b) k good
 
 -- ---- from the clauses to the parts
 module _ (s : State) (u t : ℕ) (good : good_shape s u t ≡ true) where
@@ -81,17 +31,16 @@ module _ (s : State) (u t : ℕ) (good : good_shape s u t ≡ true) where
       and_both _ _ (and_left (numbers_ok s) (slots_ok s) (clause 0))
       (and_both _ _ (and_right (numbers_ok s) (slots_ok s) (clause 0)) (and_both _ _ (clause 1) (and_both _ _ (clause 2) refl)))
 
-  block_good : (i : ℕ) → i < s.count → block_ok_in s (block_at s i) ≡ true
-  unfolding clauses
+  block_good : (i : ℕ) → i < s.count → block_ok s (block_at s i) ≡ true
+  unfolding clauses block_ok
   block_good i l =
-      block_of s (block_at s i)
-      (all_at s.count (λ i. place_ok s (block_at s i)) i (clause 3) l)
-      (all_at s.count (λ i. base_ok (block_at s i)) i (clause 4) l)
-      (all_at s.count (λ i. area_ok s (block_at s i)) i (clause 5) l)
-      (all_at s.count (λ i. fields_ok (block_at s i)) i (clause 6) l)
-      (all_at s.count (λ i. inside_ok s (block_at s i)) i (clause 8) l)
-      (all_at s.count (λ i. empty_ok (block_at s i)) i (clause 9) l)
-      (all_at s.count (λ i. flags_ok (block_at s i)) i (clause 15) l)
+      and_both _ _ (all_at s.count (λ i. place_ok s (block_at s i)) i (clause 3) l)
+      (and_both _ _ (all_at s.count (λ i. base_ok (block_at s i)) i (clause 4) l)
+      (and_both _ _ (all_at s.count (λ i. area_ok s (block_at s i)) i (clause 5) l)
+      (and_both _ _ (all_at s.count (λ i. fields_ok (block_at s i)) i (clause 6) l)
+      (and_both _ _ (all_at s.count (λ i. inside_ok s (block_at s i)) i (clause 8) l)
+      (and_both _ _ (all_at s.count (λ i. empty_ok (block_at s i)) i (clause 9) l)
+      (and_both _ _ (all_at s.count (λ i. flags_ok (block_at s i)) i (clause 15) l) refl))))))
 
   pair_good : (i j : ℕ) → i < j → j < s.count → apart (block_at s i) (block_at s j) ≡ true
   unfolding clauses
@@ -116,7 +65,7 @@ module _ (s : State) (u t : ℕ) (good : good_shape s u t ≡ true) where
   pub good_table : table_ok s ≡ true
   unfolding table_ok
   good_table =
-      and_both _ _ (all_of s.count (λ i. block_ok_in s (block_at s i)) block_good)
+      and_both _ _ (all_of s.count (λ i. block_ok s (block_at s i)) block_good)
       (and_both _ _ (pairs_of s.count (slots_apart s) (λ i j h l. and_left (slots_apart s i j) (bytes_apart s i j) (pair_good i j h l)))
       (and_both _ _ (all_of 3 (λ p. pool_matches (pool_at s p) (pool_sum s s.count p) s.immediate) pool_good)
       (and_both _ _ live_good refl)))
@@ -142,8 +91,8 @@ module _ (s : State) (u t : ℕ) (head : head_ok s u t ≡ true) (table : table_
   unfolding layout_ok
   o k = every_at (layout_tests s) k layout
 
-  fine : (i : ℕ) → i < s.count → block_ok_in s (block_at s i) ≡ true
-  fine i l = all_at s.count (λ i. block_ok_in s (block_at s i)) i (b 0) l
+  fine : (i : ℕ) → i < s.count → block_ok s (block_at s i) ≡ true
+  fine i l = all_at s.count (λ i. block_ok s (block_at s i)) i (b 0) l
 
   like : (p : ℕ) → p < 3 → pool_matches (pool_at s p) (pool_sum s s.count p) s.immediate ≡ true
   like p l = all_at 3 (λ p. pool_matches (pool_at s p) (pool_sum s s.count p) s.immediate) p (b 2) l
@@ -154,31 +103,21 @@ module _ (s : State) (u t : ℕ) (head : head_ok s u t ≡ true) (table : table_
       and_both _ _ (and_both (numbers_ok s) (slots_ok s) (h 0) (h 1))
       (and_both _ _ (h 2)
       (and_both _ _ (h 3)
-      (and_both _ _ (all_of s.count (λ i. place_ok s (block_at s i)) (λ i l. place_good s (block_at s i) (fine i l)))
-      (and_both _ _ (all_of s.count (λ i. base_ok (block_at s i)) (λ i l. base_good s (block_at s i) (fine i l)))
-      (and_both _ _ (all_of s.count (λ i. area_ok s (block_at s i)) (λ i l. area_good s (block_at s i) (fine i l)))
-      (and_both _ _ (all_of s.count (λ i. fields_ok (block_at s i)) (λ i l. fields_good s (block_at s i) (fine i l)))
+      (and_both _ _ (all_of s.count (λ i. place_ok s (block_at s i)) (λ i l. at s (block_at s i) (fine i l) 0))
+      (and_both _ _ (all_of s.count (λ i. base_ok (block_at s i)) (λ i l. at s (block_at s i) (fine i l) 1))
+      (and_both _ _ (all_of s.count (λ i. area_ok s (block_at s i)) (λ i l. at s (block_at s i) (fine i l) 2))
+      (and_both _ _ (all_of s.count (λ i. fields_ok (block_at s i)) (λ i l. at s (block_at s i) (fine i l) 3))
       (and_both _ _ (pairs_of s.count (λ i j. apart (block_at s i) (block_at s j)) (λ i j k l. and_both (slots_apart s i j) (bytes_apart s i j) (pairs_at s.count (slots_apart s) i j (b 1) k l) (pairs_at s.count (bytes_apart s) i j (o 1) k l)))
-      (and_both _ _ (all_of s.count (λ i. inside_ok s (block_at s i)) (λ i l. inside_good s (block_at s i) (fine i l)))
-      (and_both _ _ (all_of s.count (λ i. empty_ok (block_at s i)) (λ i l. empty_good s (block_at s i) (fine i l)))
+      (and_both _ _ (all_of s.count (λ i. inside_ok s (block_at s i)) (λ i l. at s (block_at s i) (fine i l) 4))
+      (and_both _ _ (all_of s.count (λ i. empty_ok (block_at s i)) (λ i l. at s (block_at s i) (fine i l) 5))
       (and_both _ _ (all_of 3 (pool_ok s) (λ p l. and_left (pool_ok s p) (empties_ok s p) (like p l)))
       (and_both _ _ (all_of 3 (empties_ok s) (λ p l. and_right (pool_ok s p) (empties_ok s p) (like p l)))
       (and_both _ _ (b 3)
       (and_both _ _ (o 0)
       (and_both _ _ (o 2)
-      (and_both _ _ (all_of s.count (λ i. flags_ok (block_at s i)) (λ i l. flags_good s (block_at s i) (fine i l))) refl)))))))))))))))
+      (and_both _ _ (all_of s.count (λ i. flags_ok (block_at s i)) (λ i l. at s (block_at s i) (fine i l) 6)) refl)))))))))))))))
 
--- ---- a part that fails, and the last part
-pub head_fails : (s : State) (u t : ℕ) → head_ok s u t ≡ false → good_shape s u t ≡ false
-head_fails s u t e = refute (good_shape s u t) (λ g. not_both (head_ok s u t) (good_head s u t g) e)
-
-pub table_fails : (s : State) (u t : ℕ) → table_ok s ≡ false → good_shape s u t ≡ false
-table_fails s u t e = refute (good_shape s u t) (λ g. not_both (table_ok s) (good_table s u t g) e)
-
-pub last_part : (s : State) (u t : ℕ) → head_ok s u t ≡ true → table_ok s ≡ true → layout_ok s ≡ good_shape s u t
-last_part s u t h b = same_test (layout_ok s) (good_shape s u t) (whole_good s u t h b) (good_layout s u t)
-
--- the parts are the whole
+-- ---- the parts are the whole
 pub parts : (s : State) (u t : ℕ) → good_shape s u t ≡ head_ok s u t && (table_ok s && layout_ok s)
 parts s u t =
     same_test (good_shape s u t) (head_ok s u t && (table_ok s && layout_ok s))

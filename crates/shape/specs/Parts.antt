@@ -1,12 +1,12 @@
 -- BadShape's clauses in the parts that the code tests. It is proved that the parts together are the printed clauses. Assumes nothing.
-use Rattle.std.specs.Prelude.{ℕ, ◌+◌, ◌*◌, ◌%◌, Bool, not, ◌&&◌, List, [], ◌∷◌, leb, ltb, eqb}
+use Rattle.std.specs.Prelude.{ℕ, ◌+◌, Bool, not, ◌&&◌, List, [], ◌∷◌, leb, eqb}
 use Rattle.numbers.specs.Pick.{pick}
-use Rattle.sizes.specs.Limits.{page, slot_limit}
+use Rattle.sizes.specs.Limits.{slot_limit}
 use Rattle.block.specs.declared.Block.{Block}
 use Rattle.sizes.specs.declared.Pool.{Pool}
 use Rattle.state.specs.declared.State.{State}
 use Rattle.state.specs.Table.{block_at, pool_at, all, all_pairs, sum, one, only}
-use Rattle.state.specs.Shape.{every, numbers_ok, slots_ok, slices_ok, count_ok, is_empty, empty_ok, flags_ok, meet, in_pool, live_ok, order_ok, zero_ok}
+use Rattle.state.specs.Shape.{every, numbers_ok, slots_ok, slices_ok, count_ok, place_ok, base_ok, area_ok, fields_ok, inside_ok, is_empty, empty_ok, flags_ok, meet, in_pool, live_ok, order_ok, zero_ok}
 
 -- the numbers in the record, and the two lengths
 unfoldable pub head_ok : State → ℕ → ℕ → Bool
@@ -14,30 +14,11 @@ head_ok s usedWords stopWords =
     every (numbers_ok s ∷ slots_ok s ∷ slices_ok s usedWords stopWords ∷ count_ok s ∷ [])
 
 -- one block by itself
-abbrev pub block_tests : ℕ → ℕ → ℕ → ℕ → ℕ → ℕ → Block → List Bool
-block_tests g pools w slots arena length b =
-    ltb b.slot slots
-    ∷ ltb b.pool pools
-    ∷ eqb (b.base % page) 0
-    ∷ not (eqb b.area 0)
-    ∷ eqb (b.area % 32) 0
-    ∷ eqb (b.area * g) b.size
-    ∷ leb b.area (32 * w)
-    ∷ leb b.used b.area
-    ∷ leb b.start b.area
-    ∷ leb b.end b.area
-    ∷ leb b.largest b.area
-    ∷ leb arena b.base
-    ∷ leb (b.base + b.size) (arena + length)
-    ∷ empty_ok b
-    ∷ flags_ok b
-    ∷ []
+abbrev pub block_tests : State → Block → List Bool
+block_tests s b = place_ok s b ∷ base_ok b ∷ area_ok s b ∷ fields_ok b ∷ inside_ok s b ∷ empty_ok b ∷ flags_ok b ∷ []
 
-unfoldable pub block_ok : ℕ → ℕ → ℕ → ℕ → ℕ → ℕ → Block → Bool
-block_ok g pools w slots arena length b = every (block_tests g pools w slots arena length b)
-
-abbrev pub block_ok_in : State → Block → Bool
-block_ok_in s b = block_ok s.granularity s.poolcount s.w s.slots s.arena s.length b
+unfoldable pub block_ok : State → Block → Bool
+block_ok s b = every (block_tests s b)
 
 -- ---- pools
 -- the sums with one block more
@@ -83,7 +64,7 @@ bytes_apart s i j = not (meet (block_at s i) (block_at s j))
 unfoldable pub table_ok : State → Bool
 table_ok s =
     every
-    (all s.count (λ i. block_ok_in s (block_at s i))
+    (all s.count (λ i. block_ok s (block_at s i))
     ∷ all_pairs s.count (slots_apart s)
     ∷ all 3 (λ p. pool_matches (pool_at s p) (pool_sum s s.count p) s.immediate)
     ∷ live_ok s

@@ -2,117 +2,67 @@
 ghost use Rattle.std.specs.Prelude.{◌≡◌, ◌≤◌};
 ghost use Rattle.state.specs.Table.{one};
 ghost use Rattle.sizes.specs.Limits.{max_slot_words};
-ghost use Rattle.state.specs.Shape.{is_empty, is_zero, empty_ok};
+ghost use Rattle.state.specs.Shape.{place_ok, base_ok, area_ok, fields_ok, inside_ok, empty_ok, flags_ok, is_zero};
 ghost use Rattle.shape.specs.Parts.{block_ok};
 
 use block::Block;
+use state::State;
 
-pub fn is_empty(b: Block) -> bool
-    ensures { result ≡ is_empty b }
-{
-    b.flags & Block::FLAG_EMPTY != 0
-}
-
+// True if each of the block's numbers is 0, as behind the last block of the table.
 pub fn is_zero(b: Block) -> bool
     ensures { result ≡ is_zero b }
 {
-    if b.base != 0 {
-        return false;
-    }
-    if b.size != 0 {
-        return false;
-    }
-    if b.pool != 0 {
-        return false;
-    }
-    if b.slot != 0 {
-        return false;
-    }
-    if b.flags != 0 {
-        return false;
-    }
-    if b.area != 0 {
-        return false;
-    }
-    if b.used != 0 {
-        return false;
-    }
-    if b.start != 0 {
-        return false;
-    }
-    if b.end != 0 {
-        return false;
-    }
-    b.largest == 0
+    b == Block::default()
 }
 
+// True if the block's area is not 0, a multiple of 32, times the granularity its size, and not past its slot.
+fn area_ok(b: Block, s: &State) -> bool
+    requires { (s.now.granularity ≤ 256) × (s.now.w ≤ max_slot_words) }
+    ensures { result ≡ area_ok s.now b }
+{
+    let area = b.area as u64;
+    b.area != 0 && b.area % 32 == 0 && area <= 32 * s.w as u64 && area * s.granularity == b.size
+}
+
+// True if the used units, the window and the largest run are within the area.
+fn fields_ok(b: Block) -> bool
+    ensures { result ≡ fields_ok b }
+{
+    b.used <= b.area && b.start <= b.area && b.end <= b.area && b.largest <= b.area
+}
+
+// True if the block lies in the arena. It compares before it subtracts, so nothing wraps.
+fn inside_ok(b: Block, s: &State) -> bool
+    ensures { result ≡ inside_ok s.now b }
+{
+    b.base >= s.arena && b.size <= s.length && b.base - s.arena <= s.length - b.size
+}
+
+// True if the block is flagged empty exactly if no unit is used.
 fn empty_ok(b: Block) -> bool
     ensures { result ≡ empty_ok b }
 {
-    if is_empty(b) {
-        return b.used == 0;
-    }
-    b.used != 0
+    b.is_empty() == (b.used == 0)
 }
 
-// Tests all that BadShape asks of one block by itself. It compares `size` with `length` before it subtracts, so nothing wraps.
-pub fn block_ok(
-    b: Block,
-    granularity: u64,
-    poolcount: usize,
-    w: usize,
-    slots: usize,
-    arena: u64,
-    length: u64,
-) -> bool
-    requires { (granularity ≤ 256) × (w ≤ max_slot_words) }
-    ensures { result ≡ block_ok granularity poolcount w slots arena length b }
+// True if there is such a slot and such a pool.
+fn place_ok(b: Block, s: &State) -> bool
+    ensures { result ≡ place_ok s.now b }
 {
-    if b.slot >= slots {
-        return false;
-    }
-    if b.pool >= poolcount {
-        return false;
-    }
-    if b.base % sizes::PAGE != 0 {
-        return false;
-    }
-    if b.area == 0 {
-        return false;
-    }
-    if b.area % 32 != 0 {
-        return false;
-    }
-    let area = b.area as u64;
-    if area > 32 * w as u64 {
-        return false;
-    }
-    if area * granularity != b.size {
-        return false;
-    }
-    if b.used > b.area {
-        return false;
-    }
-    if b.start > b.area {
-        return false;
-    }
-    if b.end > b.area {
-        return false;
-    }
-    if b.largest > b.area {
-        return false;
-    }
-    if b.base < arena {
-        return false;
-    }
-    if b.size > length {
-        return false;
-    }
-    if b.base - arena > length - b.size {
-        return false;
-    }
-    if b.flags > Block::FLAG_EMPTY + Block::FLAG_DIRTY {
-        return false;
-    }
-    empty_ok(b)
+    b.slot < s.slots && b.pool < s.poolcount
+}
+
+// Tests all that BadShape asks of one block by itself, in the order in which it asks.
+#[tactic(auto, unfolding(crate::specs::Parts::block_ok))]
+pub fn block_ok(b: Block, s: &State) -> bool
+    requires { (s.now.granularity ≤ 256) × (s.now.w ≤ max_slot_words) }
+    ensures { result ≡ block_ok s.now b }
+{
+    place_ok(b, s)
+        && b.base % sizes::PAGE == 0
+        && area_ok(b, s)
+        && fields_ok(b)
+        && inside_ok(b, s)
+        && empty_ok(b)
+        && b.flags <= Block::FLAG_EMPTY + Block::FLAG_DIRTY
 }

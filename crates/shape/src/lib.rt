@@ -24,53 +24,24 @@ pub fn table_ok(s: State) -> bool
     let mut seen = [false; state::SLOT_LIMIT];
     let mut sums = [Pool::new(s.granularity); 3];
     let mut used: u64 = 0;
-    let mut i: usize = 0;
-    while i < s.count {
-        let b = s.blocks[i];
-        if !blocks::block_ok(
-            b,
-            s.granularity,
-            s.poolcount,
-            s.w,
-            s.slots,
-            s.arena,
-            s.length,
-        ) {
+    for b in &s.blocks[..s.count] {
+        if !blocks::block_ok(*b, &s) || seen[b.slot] {
             return false;
         }
-        let slot = b.slot;
-        if seen[slot] {
-            return false;
-        }
-        seen[slot] = true;
-        let p = b.pool;
-        let q = sums[p];
-        sums[p] = pools::count_in(q, b);
+        seen[b.slot] = true;
+        sums[b.pool] = pools::count_in(sums[b.pool], *b);
         used += b.used as u64;
-        i += 1;
     }
-    if !pools::pools_match(s.pools, sums, s.immediate) {
-        return false;
-    }
-    s.live <= used
+    pools::pools_match(s.pools, sums, s.immediate) && s.live <= used
 }
 
 // True if both lists have only zeros after the last block.
-fn zeros_ok(s: State) -> bool
-    requires { s.count ≤ slot_limit }
-    ensures { result ≡ all slot_limit (zero_ok s) }
+fn zeros_ok(s: &State) -> bool
+    requires { s.now.count ≤ slot_limit }
+    ensures { result ≡ all slot_limit (zero_ok s.now) }
 {
-    let mut i = s.count;
-    while i < state::SLOT_LIMIT {
-        if !blocks::is_zero(s.blocks[i]) {
-            return false;
-        }
-        if s.order[i] != 0 {
-            return false;
-        }
-        i += 1;
-    }
-    true
+    s.blocks[s.count..].iter().all(|b| blocks::is_zero(*b))
+        && s.order[s.count..].iter().all(|age| *age == 0)
 }
 
 // Tests the address order, and the zeros after the last block. Each block starts at or after the end of the one before: so the blocks rise,
@@ -80,31 +51,23 @@ fn layout_ok(s: State) -> bool
     ensures { result ≡ layout_ok s }
 {
     let mut end: u64 = 0;
-    let mut k: usize = 0;
-    while k < s.count {
-        let i = s.order[k];
-        if i >= s.count {
+    for age in &s.order[..s.count] {
+        if *age >= s.count {
             return false;
         }
-        let b = s.blocks[i];
+        let b = s.blocks[*age];
         if b.base < end {
             return false;
         }
         end = b.base + b.size;
-        k += 1;
     }
-    zeros_ok(s)
+    zeros_ok(&s)
 }
 
 // True if the record is not BadShape. `used` and `stop` are the lengths of the two slices.
+#[tactic(auto, using(crate::proofs::Whole::parts))]
 pub fn shape_ok(s: State, used: usize, stop: usize) -> bool
     ensures { result ≡ good_shape s used stop }
 {
-    if !creation::head_ok(s, used, stop) {
-        return false;
-    }
-    if !table_ok(s) {
-        return false;
-    }
-    layout_ok(s)
+    creation::head_ok(s, used, stop) && table_ok(s) && layout_ok(s)
 }

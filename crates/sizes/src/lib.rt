@@ -20,7 +20,7 @@ pub const MAX_SIZE: u64 = 2_147_483_647;
 
 // A pool: its unit, how many blocks it has, how many of them are empty, and the sums of their areas and of their used units.
 // `JitAllocatorPool` in the Rust.
-#[derive(Clone, Copy)]
+#[derive(Clone, Copy, PartialEq, Eq, Default)]
 pub struct Pool {
     pub granularity: u64,
     pub blocks: u32,

@@ -51,21 +51,11 @@ pub enum Place {
     Nowhere,
 }
 
+// Makes the block of zeros that stands behind the last block of the table.
 pub fn zero_block() -> Block
     ensures { result ≡ zero_block }
 {
-    Block {
-        base: 0,
-        size: 0,
-        pool: 0,
-        slot: 0,
-        flags: 0,
-        area: 0,
-        used: 0,
-        start: 0,
-        end: 0,
-        largest: 0,
-    }
+    Block::default()
 }
 
 // Makes the record of zeros that a refused creation returns.
