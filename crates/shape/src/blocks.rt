@@ -9,54 +9,54 @@ use block::Block;
 use state::State;
 
 // True if each of the block's numbers is 0, as behind the last block of the table.
-pub fn is_zero(b: Block) -> bool
-    ensures { result ≡ is_zero b }
+pub fn is_zero(b: &Block) -> bool
+    ensures { result ≡ is_zero b.now }
 {
-    b == Block::default()
+    *b == Block::default()
 }
 
 // True if the block's area is not 0, a multiple of 32, times the granularity its size, and not past its slot.
-fn area_ok(b: Block, s: &State) -> bool
+fn area_ok(b: &Block, s: &State) -> bool
     requires { (s.now.granularity ≤ 256) × (s.now.w ≤ max_slot_words) }
-    ensures { result ≡ area_ok s.now b }
+    ensures { result ≡ area_ok s.now b.now }
 {
     let area = b.area as u64;
     b.area != 0 && b.area % 32 == 0 && area <= 32 * s.w as u64 && area * s.granularity == b.size
 }
 
 // True if the used units, the window and the largest run are within the area.
-fn fields_ok(b: Block) -> bool
-    ensures { result ≡ fields_ok b }
+fn fields_ok(b: &Block) -> bool
+    ensures { result ≡ fields_ok b.now }
 {
     b.used <= b.area && b.start <= b.area && b.end <= b.area && b.largest <= b.area
 }
 
 // True if the block lies in the arena. It compares before it subtracts, so nothing wraps.
-fn inside_ok(b: Block, s: &State) -> bool
-    ensures { result ≡ inside_ok s.now b }
+fn inside_ok(b: &Block, s: &State) -> bool
+    ensures { result ≡ inside_ok s.now b.now }
 {
     b.base >= s.arena && b.size <= s.length && b.base - s.arena <= s.length - b.size
 }
 
 // True if the block is flagged empty exactly if no unit is used.
-fn empty_ok(b: Block) -> bool
-    ensures { result ≡ empty_ok b }
+fn empty_ok(b: &Block) -> bool
+    ensures { result ≡ empty_ok b.now }
 {
     b.is_empty() == (b.used == 0)
 }
 
 // True if there is such a slot and such a pool.
-fn place_ok(b: Block, s: &State) -> bool
-    ensures { result ≡ place_ok s.now b }
+fn place_ok(b: &Block, s: &State) -> bool
+    ensures { result ≡ place_ok s.now b.now }
 {
     b.slot < s.slots && b.pool < s.poolcount
 }
 
 // Tests all that BadShape asks of one block by itself, in the order in which it asks.
 #[tactic(auto, unfolding(crate::specs::Parts::block_ok))]
-pub fn block_ok(b: Block, s: &State) -> bool
+pub fn block_ok(b: &Block, s: &State) -> bool
     requires { (s.now.granularity ≤ 256) × (s.now.w ≤ max_slot_words) }
-    ensures { result ≡ block_ok s.now b }
+    ensures { result ≡ block_ok s.now b.now }
 {
     place_ok(b, s)
         && b.base % sizes::PAGE == 0

@@ -25,7 +25,7 @@ pub fn table_ok(s: State) -> bool
     let mut sums = [Pool::new(s.granularity); 3];
     let mut used: u64 = 0;
     for b in &s.blocks[..s.count] {
-        if !blocks::block_ok(*b, &s) || seen[b.slot] {
+        if !blocks::block_ok(b, &s) || seen[b.slot] {
             return false;
         }
         seen[b.slot] = true;
@@ -40,7 +40,7 @@ fn zeros_ok(s: &State) -> bool
     requires { s.now.count ≤ slot_limit }
     ensures { result ≡ all slot_limit (zero_ok s.now) }
 {
-    s.blocks[s.count..].iter().all(|b| blocks::is_zero(*b))
+    s.blocks[s.count..].iter().all(blocks::is_zero)
         && s.order[s.count..].iter().all(|age| *age == 0)
 }
 
