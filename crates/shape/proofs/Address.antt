@@ -7,8 +7,6 @@ use mathlib.Core.List.{List, [], ◌∷◌}
 use mathlib.Core.Logic.{◌⊎◌, inl, inr, ⊎_elim}
 use native.Mathlib.Omega.{arith}
 use lib.Dec.{ltb, eqb}
-use lib.ListN.{length, get_or, take}
-use Rattle.std.proofs.Common.{length-take, get_or-take}
 use borrow.Author.Tests.{ltb-true, ltb-false, lt-ltb, le-ltb, eqb-true, eq-eqb, not-true}
 use Rattle.numbers.proofs.Bools.{not_both, by_bool, refute, not_of_false, and_left, and_right, and_both, and_fails_left, and_fails_right, and_then}
 use Rattle.numbers.proofs.Split.{by_eq, by_le}
@@ -92,14 +90,6 @@ module _ (s : State) (good : layout_ok s ≡ true) where
 
   pub behind : (k l : ℕ) → k < l → l < s.count → end_of s k ≤ base_of s l
   behind = chain s.count (base_of s) (end_of s) (λ k l. omega arith) next_good
-
--- ---- the walk goes over the ages up to the last block
-module _ (s : State) (k : ℕ) (more : k < length (take s.count s.order)) where
-  pub stands : k < s.count
-  stands = omega (arith, length-take s.count s.order)
-
-  pub at_place : get_or (take s.count s.order) k 0 ≡ age_at s k
-  at_place = get_or-take s.count s.order k 0 stands
 
 -- ---- the walk, before place k; `end` is where the block before ends
 pub record Ordered (s : State) (k end : ℕ) : Type 0 where

@@ -5,8 +5,7 @@ use mathlib.Core.Bool.{Bool, true, false, ◌&&◌, and-true}
 use mathlib.Core.List.{List, [], ◌∷◌}
 use native.Mathlib.Omega.{arith}
 use lib.Dec.{leb, eqb}
-use lib.ListN.{length, get_or, set, take, replicate, length-set, length-replicate, get_or-replicate}
-use Rattle.std.proofs.Common.{length-take, get_or-take}
+use lib.ListN.{length, get_or, set, replicate, length-set, length-replicate, get_or-replicate}
 use lib.Seq.{get_or-set_same, get_or-set_other}
 use borrow.Author.Tests.{eq-eqb, ne_eqb}
 use Rattle.numbers.proofs.Bools.{not_both, not_of_true, not_of_false, and_then}
@@ -14,7 +13,7 @@ use Rattle.numbers.proofs.Split.{by_eq}
 use Rattle.sizes.specs.declared.Pool.{Pool}
 use Rattle.sizes.specs.Pools.{fresh_pool}
 use Rattle.state.specs.declared.State.{State}
-use Rattle.state.specs.Table.{zero_block, block_at, pool_at, all, all_pairs, sum, one, only}
+use Rattle.state.specs.Table.{block_at, pool_at, all, all_pairs, sum, one, only}
 use Rattle.state.specs.Shape.{in_pool, is_empty, live_ok}
 use Rattle.state.proofs.Tests.{every_fails, all_of, all_fails, pairs_of, pairs_fail, sum_more, sum_bound}
 use Rattle.shape.specs.Parts.{block_ok, counted, pool_sum, pool_matches, slots_apart, table_ok}
@@ -33,14 +32,6 @@ table_tests s =
     ∷ all 3 (λ p. pool_matches (pool_at s p) (pool_sum s s.count p) s.immediate)
     ∷ live_ok s
     ∷ []
-
--- the walk goes over the list up to the last block
-module _ (s : State) (i : ℕ) (more : i < length (take s.count s.blocks)) where
-  pub stands : i < s.count
-  stands = omega (arith, length-take s.count s.blocks)
-
-  pub at_place : get_or (take s.count s.blocks) i zero_block ≡ block_at s i
-  at_place = get_or-take s.count s.blocks i zero_block stands
 
 pub record Walked (s : State) (i : ℕ) (seen : List Bool) (pools : List Pool) (total : ℕ) : Type 0 where
   pub here : i ≤ s.count

@@ -5,7 +5,6 @@ use mathlib.Core.Path.{◌≡◌, refl}
 use native.Mathlib.Omega.{arith}
 use borrow.Author.Tests.{lt-ltb, le-ltb, eq-eqb, ne_eqb}
 use lib.ListN.{get_or}
-use Rattle.numbers.proofs.Split.{by_le}
 use mathlib.Core.Bool.{Bool}
 use Rattle.state.specs.declared.Found.{Found}
 use Rattle.state.specs.declared.Found.TheVariants.{At, Nothing}
@@ -33,9 +32,6 @@ fallen_below i age h = rw (le-ltb i age h)
 
 pub fallen_above : (i age : ℕ) → i < age → fallen i age ≡ age - 1
 fallen_above i age h = rw (lt-ltb i age h)
-
-pub past-le : (i k : ℕ) → past i k ≤ k + 1
-past-le i k = by_le i k (λ h. omega (arith, past_above i k h)) (λ h. omega (arith, past_below i k h))
 
 -- a place that is looked for below n is at most n
 pub or_else_le : (n : ℕ) (test : ℕ → Bool) → or_else n (least n test) ≤ n

@@ -1,5 +1,6 @@
 // Enters a block into the table. `insert_block` in the Rust, with two arrays in place of the list and the tree.
-ghost use Rattle.std.specs.Prelude.{◌≡◌, ℕ, ◌+◌, ◌≤◌, ◌<◌, length, get_or};
+ghost use Rattle.std.specs.Prelude.{◌≡◌, ℕ, ◌+◌, ◌≤◌, ◌<◌, length, take};
+ghost use Rattle.std.specs.List.{All};
 ghost use Rattle.sizes.specs.Limits.{slot_limit};
 ghost use Rattle.state.specs.Table.{age_at};
 ghost use Rattle.table.specs.Changeable.{Insertable};
@@ -9,42 +10,26 @@ use block::Block;
 use sizes::Pool;
 use state::State;
 
-// Puts `age` at `place` into the address order, and moves the ages from there on up by one.
-fn with_age(
-    order: [usize; state::SLOT_LIMIT],
-    place: usize,
-    count: usize,
-    age: usize,
-) -> [usize; state::SLOT_LIMIT]
-    requires place_le_count { (place ≤ count) × (count < slot_limit) × (length order ≡ slot_limit) }
-    requires by_index { (k : ℕ) → count ≤ k → get_or order k 0 ≡ 0 }
-    ensures { result ≡ list_from 0 slot_limit (moved_up order place age) }
+// Puts `age` at `place` into a list of ages: those from there on move up by one place, and the last one goes.
+fn put_age(order: &mut [usize], place: usize, age: usize)
+    requires in_list { place < length order.old }
+    ensures { order.new ≡ list_from 0 (length order.old) (moved_up order.old place age) }
 {
-    let mut r = order;
-    let mut k = count;
-    while place < k {
-        r[k] = r[k - 1];
-        k -= 1;
-    }
-    r[place] = age;
-    r
+    let last = order.len() - 1;
+    order.copy_within(place..last, place + 1);
+    order[place] = age;
 }
 
 // Returns a new block's place in the address order: before the first block of higher base.
-fn place_of(s: State, b: Block) -> usize
-    requires { (s.count ≤ slot_limit) × ((k : ℕ) → k < s.count → age_at s k < slot_limit) }
-    ensures { result ≡ place_of s b }
+fn place_of(s: &State, b: &Block) -> usize
+    requires few { s.now.count ≤ slot_limit }
+    requires ages_in_table { All (λ age. age < slot_limit) (take s.now.count s.now.order) }
+    ensures { result ≡ place_of s.now b.now }
 {
-    let mut k: usize = 0;
-    while k < s.count {
-        let i = s.order[k];
-        let other = s.blocks[i];
-        if b.base < other.base {
-            return k;
-        }
-        k += 1;
-    }
-    k
+    s.order[..s.count]
+        .iter()
+        .position(|age| b.base < s.blocks[*age].base)
+        .unwrap_or(s.count)
 }
 
 // Enters a block as the newest.
@@ -52,18 +37,13 @@ pub fn insert_block(s: State, b: Block) -> State
     requires { Insertable s b }
     ensures { result ≡ inserted s b }
 {
-    let count = s.count;
-    let place = place_of(s, b);
-    let old = s.order;
-    let order = with_age(old, place, count, count);
-    let p = b.pool;
-    let mut q = s.pools[p];
-    q.blocks = q.blocks + 1;
-    q.area = q.area + b.area;
+    let place = place_of(&s, &b);
     let mut r = s;
-    r.blocks[count] = b;
-    r.order = order;
-    r.pools[p] = q;
-    r.count = count + 1;
+    put_age(&mut r.order, place, s.count);
+    r.blocks[s.count] = b;
+    let pool = &mut r.pools[b.pool];
+    pool.blocks += 1;
+    pool.area += b.area;
+    r.count += 1;
     r
 }

@@ -17,16 +17,11 @@ pub fn newest_size(s: State, pool: usize) -> u64
     requires { s.count ≤ slot_limit }
     ensures { result ≡ newest_size s pool }
 {
-    let mut size = s.size;
-    let mut i: usize = 0;
-    while i < s.count {
-        let b = s.blocks[i];
-        if b.pool == pool {
-            size = b.size;
-        }
-        i += 1;
-    }
-    size
+    s.blocks[..s.count]
+        .iter()
+        .rev()
+        .find(|b| b.pool == pool)
+        .map_or(s.size, |b| b.size)
 }
 
 // Finds the block that holds an address: binary search over the address order.
@@ -58,12 +53,8 @@ fn taken_slots(s: State) -> [bool; state::SLOT_LIMIT]
     ensures { TakenSlots s s.count result }
 {
     let mut taken = [false; state::SLOT_LIMIT];
-    let mut i: usize = 0;
-    while i < s.count {
-        let b = s.blocks[i];
-        let slot = b.slot;
-        taken[slot] = true;
-        i += 1;
+    for b in &s.blocks[..s.count] {
+        taken[b.slot] = true;
     }
     taken
 }

@@ -3,7 +3,8 @@
 use Prim.Native.Nat.{ℕ}
 use mathlib.Core.Path.{◌≡◌, sym, ◌∙◌, subst}
 use native.Mathlib.Omega.{arith}
-use Rattle.shape.proofs.Address.{Ordered, stands, at_place, age_fails, gap_fails, layout_done}
+use Rattle.state.proofs.Lists.{front_below, front_at}
+use Rattle.shape.proofs.Address.{Ordered, age_fails, gap_fails, layout_done}
 use Rattle.shape.proofs.layout_ok.Goals as goal
 
 pub returns-then-age-s : goal.returns-then-age-s
@@ -11,14 +12,14 @@ returns-then-age-s c =
     let s = c.args.s in
     let k = c.loop-age.age-index in
     let more = c.loop-age-test.true in
-    sym (age_fails s k (stands s k more) (rw (at_place s k more) at c.if-age-s.true))
+    sym (age_fails s k (front_below s.count s.order k more) (rw (front_at s.count s.order 0 k more) at c.if-age-s.true))
 
 pub returns-then-b-end : goal.returns-then-b-end
 returns-then-b-end c =
     let s = c.args.s in
     let k = c.loop-age.age-index in
     let more = c.loop-age-test.true in
-    sym (gap_fails s k c.loop-age.end c.loop-age.invariant (stands s k more) (rw (at_place s k more) at c.if-b-end.true))
+    sym (gap_fails s k c.loop-age.end c.loop-age.invariant (front_below s.count s.order k more) (rw (front_at s.count s.order 0 k more) at c.if-b-end.true))
 
 pub returns : goal.returns
 returns c =
