@@ -1,8 +1,7 @@
 // Tests one block by itself for refusal 5, BadShape. Its numbers may be any.
 ghost use Rattle.std.specs.Prelude.{◌≡◌, ◌≤◌};
-ghost use Rattle.state.specs.Table.{one};
 ghost use Rattle.sizes.specs.Limits.{max_slot_words};
-ghost use Rattle.state.specs.Shape.{place_ok, base_ok, area_ok, fields_ok, inside_ok, empty_ok, flags_ok, is_zero};
+ghost use Rattle.state.specs.Shape.{place_ok, area_ok, fields_ok, inside_ok, empty_ok, is_zero};
 ghost use Rattle.shape.specs.Parts.{block_ok};
 
 use block::Block;
@@ -20,7 +19,7 @@ fn area_ok(b: &Block, s: &State) -> bool
     requires { (s.now.granularity ≤ 256) × (s.now.w ≤ max_slot_words) }
     ensures { result ≡ area_ok s.now b.now }
 {
-    let area = b.area as u64;
+    let area = u64::from(b.area);
     b.area != 0 && b.area % 32 == 0 && area <= 32 * s.w as u64 && area * s.granularity == b.size
 }
 

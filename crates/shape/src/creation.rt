@@ -28,8 +28,7 @@ fn numbers_ok(s: &State) -> bool
     sizes::limits::is_base_size(s.size)
         && sizes::limits::is_granularity(s.granularity)
         && (s.poolcount == 1 || s.poolcount == 3)
-        && s.w >= 1
-        && s.w <= state::MAX_SLOT_WORDS
+        && (1..=state::MAX_SLOT_WORDS).contains(&s.w)
         && arena_ok(s.arena, s.length)
 }
 
@@ -37,7 +36,7 @@ fn numbers_ok(s: &State) -> bool
 fn slots_ok(s: &State) -> bool
     ensures { result ≡ slots_ok s.now }
 {
-    s.slots >= 1 && s.slots <= state::SLOT_LIMIT
+    (1..=state::SLOT_LIMIT).contains(&s.slots)
 }
 
 // True if both slices have a word for each of every slot.

@@ -8,7 +8,7 @@ pub mod pools;
 
 ghost use Rattle.std.specs.Prelude.{◌≡◌, ◌≤◌};
 ghost use Rattle.sizes.specs.Limits.{slot_limit};
-ghost use Rattle.state.specs.Table.{one, all};
+ghost use Rattle.state.specs.Table.{all};
 ghost use Rattle.state.specs.Shape.{good_shape, zero_ok};
 ghost use Rattle.shape.specs.Parts.{table_ok, layout_ok};
 ghost use Rattle.shape.specs.Facts.{Headed, Laid};
@@ -23,14 +23,14 @@ pub fn table_ok(s: State) -> bool
 {
     let mut seen = [false; state::SLOT_LIMIT];
     let mut sums = [Pool::new(s.granularity); 3];
-    let mut used: u64 = 0;
+    let mut used = 0;
     for b in &s.blocks[..s.count] {
         if !blocks::block_ok(b, &s) || seen[b.slot] {
             return false;
         }
         seen[b.slot] = true;
         sums[b.pool] = pools::count_in(sums[b.pool], *b);
-        used += b.used as u64;
+        used += u64::from(b.used);
     }
     pools::pools_match(s.pools, sums, s.immediate) && s.live <= used
 }
@@ -50,7 +50,7 @@ fn layout_ok(s: State) -> bool
     requires { Laid s }
     ensures { result ≡ layout_ok s }
 {
-    let mut end: u64 = 0;
+    let mut end = 0;
     for age in &s.order[..s.count] {
         if *age >= s.count {
             return false;

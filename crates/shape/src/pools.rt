@@ -1,6 +1,6 @@
 // Tests the pools' records for refusal 5, BadShape: each must equal the sums over its blocks.
 ghost use Rattle.std.specs.Prelude.{◌≡◌, get_or};
-ghost use Rattle.state.specs.Table.{one, all};
+ghost use Rattle.state.specs.Table.{all};
 ghost use Rattle.shape.specs.Parts.{pool_matches, counted};
 ghost use Rattle.shape.specs.Facts.{Countable};
 ghost use Rattle.sizes.specs.Pools.{fresh_pool};

@@ -1,13 +1,11 @@
 // Enters a block into the table. `insert_block` in the Rust, with two arrays in place of the list and the tree.
-ghost use Rattle.std.specs.Prelude.{◌≡◌, ℕ, ◌+◌, ◌≤◌, ◌<◌, length, take};
+ghost use Rattle.std.specs.Prelude.{◌≡◌, ◌≤◌, ◌<◌, length, take};
 ghost use Rattle.std.specs.List.{All};
 ghost use Rattle.sizes.specs.Limits.{slot_limit};
-ghost use Rattle.state.specs.Table.{age_at};
 ghost use Rattle.table.specs.Changeable.{Insertable};
 ghost use Rattle.state.specs.Change.{list_from, moved_up, place_of, inserted};
 
 use block::Block;
-use sizes::Pool;
 use state::State;
 
 // Puts `age` at `place` into a list of ages: those from there on move up by one place, and the last one goes.

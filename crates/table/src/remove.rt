@@ -28,6 +28,7 @@ fn take_out<T: Copy>(list: &mut [T], place: usize, zero: T)
     list[last] = zero;
 }
 
+// Returns what becomes of an age when the block of age `i` leaves.
 fn fallen_age(i: usize, age: usize) -> usize
     ensures { result ≡ fallen i age }
 {

@@ -10,7 +10,7 @@ use Rattle.sizes.specs.declared.Pool.{Pool}
 use Rattle.state.specs.Table.{zero_block, block_at}
 use Rattle.state.proofs.Lists.{front_below, front_at}
 use Rattle.shape.specs.Parts.{block_ok}
-use Rattle.shape.proofs.Walk.{Walked, walk_start, walk_step, walk_done, total_low, slot_low, pool_low, room, slot_fails, block_fails, pools_fail}
+use Rattle.shape.proofs.Walk.{Walked, walk_start, walk_step, walk_done, total_low, used_low, slot_low, pool_low, room, slot_fails, block_fails, pools_fail}
 use Rattle.shape.proofs.table_ok.Goals.{After-loop-b, Else-not-block_ok, Else-seen-b, then-not-block_ok-via-then-not-block_ok, then-not-block_ok-via-else-not-block_ok+then-seen-b}
 use Rattle.shape.proofs.table_ok.Goals as goal
 
@@ -88,7 +88,11 @@ bounds-sums-b-in-loop-b c =
 pub overflow_add-used : goal.overflow_add-used
 overflow_add-used c =
     let s = c.args.s in
-    omega (arith, total_low c.requires c.loop-b.invariant (front_below s.count s.blocks c.loop-b.b-index c.loop-b-test.true))
+    let i = c.loop-b.b-index in
+    let more = c.loop-b-test.true in
+    let used = rw (front_at s.count s.blocks zero_block i more) at c.from-used.ensures in
+    omega (arith, used, total_low c.requires c.loop-b.invariant (front_below s.count s.blocks i more),
+    used_low c.requires c.loop-b.invariant (front_below s.count s.blocks i more) (good (goal.at.overflow_add-used c).Else-not-block_ok))
 
 pub loop-b-preserved : goal.loop-b-preserved
 loop-b-preserved c =
@@ -97,7 +101,7 @@ loop-b-preserved c =
     let more = c.loop-b-test.true in
     let new = rw (front_at s.count s.blocks zero_block i more) at c.if-seen-b.false in
     let step = walk_step c.requires c.loop-b.invariant (front_below s.count s.blocks i more) (good (goal.at.loop-b-preserved c).Else-not-block_ok) new in
-    rw (c.count_in.ensures, front_at s.count s.blocks zero_block i more) step
+    rw (c.count_in.ensures, c.from-used.ensures, front_at s.count s.blocks zero_block i more) step
 
 pub returns-then-pools_match : goal.returns-then-pools_match
 returns-then-pools_match c = walk_done (whole (goal.at.returns-then-pools_match c).After-loop-b) (sym c.pools_match.ensures ∙ c.if-pools_match.true)
