@@ -181,3 +181,10 @@ module _ (s : State) (i : ℕ) (r : State) (seen : List Bool) (f : Keepable s) (
     sparse = record { few = omega (arith, q.sparse.few); age = q.sparse.age; rest = q.sparse.rest };
     fresh = λ p l z. q.fresh p l (unseen_before p z);
   }
+
+  -- as the code leaves it: b is the block that it reads, x and y are its table and its list afterwards
+  pub kept_step : (b : Block) → b ≡ block_at s i → get_or seen b.pool false ≡ false → (x : State) (y : List Bool) → x ≡ keep r b → y ≡ set seen b.pool true → Keeping s (i + 1) x y
+  kept_step b e g x y xe ye = rw (xe, ye, e) (keeping_keep (rw e at g))
+
+  pub skip_step : (b : Block) → b ≡ block_at s i → get_or seen b.pool false ≡ true → (x : State) (y : List Bool) → x ≡ r → y ≡ seen → Keeping s (i + 1) x y
+  skip_step b e g x y xe ye = rw (xe, ye) (keeping_skip (rw e at g))

@@ -1,2 +1,3 @@
 pub mod Kept
-pub mod Turns
+pub mod Ready
+pub mod Walk

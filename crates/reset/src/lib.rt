@@ -11,15 +11,29 @@ ghost use Rattle.reset.specs.Clearable.{Clearable};
 use state::{Answer, Outcome, Refusal, State};
 
 // Clears the slots of all blocks in one map. It writes no word of another slot.
+#[tactic(auto, using(crate::proofs::Walk::clearing))]
 fn clear_blocks(s: State, words: &mut [u32])
     requires { Clearable s (length words.old) }
     ensures { words.new ≡ clear_blocks s s.count words.old }
 {
-    let mut i: usize = 0;
-    while i < s.count {
-        let b = s.blocks[i];
+    for b in &s.blocks[..s.count] {
         slots::clear_slot(words, b.slot, s.w);
-        i += 1;
+    }
+}
+
+// Refuses a bad shape; else clears the slots of all blocks, and leaves the table of a hard or a soft reset.
+#[tactic(auto, using(crate::proofs::Ready::ready), unfolding(machine::specs::Reset::reset_turn))]
+fn reset(s: State, used: &mut [u32], stop: &mut [u32], hard: bool) -> Outcome
+    ensures { turn_of result used.new stop.new ≡ reset_turn s used.old stop.old hard }
+{
+    if !shape::shape_ok(s, used.len(), stop.len()) {
+        return state::refused(s, Refusal::BadShape);
+    }
+    clear_blocks(s, used);
+    clear_blocks(s, stop);
+    Outcome {
+        answer: Answer::Reset,
+        state: keep::left_table(s, hard),
     }
 }
 
@@ -27,26 +41,12 @@ fn clear_blocks(s: State, words: &mut [u32])
 pub fn hard_reset(s: State, used: &mut [u32], stop: &mut [u32]) -> Outcome
     ensures { turn_of result used.new stop.new ≡ reset_turn s used.old stop.old true }
 {
-    if !shape::shape_ok(s, used.len(), stop.len()) {
-        return state::refused(s, Refusal::BadShape);
-    }
-    clear_blocks(s, used);
-    clear_blocks(s, stop);
-    let state = keep::empty_table(s);
-    let answer = Answer::Reset;
-    Outcome { answer, state }
+    reset(s, used, stop, true)
 }
 
 // Removes all blocks but each pool's oldest, which it empties; under immediate release, all blocks.
 pub fn soft_reset(s: State, used: &mut [u32], stop: &mut [u32]) -> Outcome
     ensures { turn_of result used.new stop.new ≡ reset_turn s used.old stop.old false }
 {
-    if !shape::shape_ok(s, used.len(), stop.len()) {
-        return state::refused(s, Refusal::BadShape);
-    }
-    clear_blocks(s, used);
-    clear_blocks(s, stop);
-    let state = keep::soft_reset_table(s);
-    let answer = Answer::Reset;
-    Outcome { answer, state }
+    reset(s, used, stop, false)
 }
