@@ -3,7 +3,7 @@
 
 ghost use Rattle.std.specs.Prelude.{◌≡◌, ◌+◌, ◌-◌, ◌*◌, ◌^◌, ◌≤◌, ◌<◌, length};
 ghost use Rattle.numbers.specs.Units.{bytes_of};
-ghost use Rattle.sizes.specs.Limits.{slot_limit};
+ghost use Rattle.state.specs.InTable.{InTable};
 ghost use Rattle.state.specs.Table.{block_at, pool_at, one};
 ghost use Rattle.state.specs.Shape.{is_empty};
 ghost use Rattle.machine.specs.Turn.{turn_of, span, put_block, put_pool, with_live, with_counts, unit_of};
@@ -14,31 +14,24 @@ use block::Block;
 use sizes::Pool;
 use state::{Answer, Outcome, Span, State};
 
-// Returns 1 for a block that is flagged empty, since its pool then keeps one empty block less; else 0.
-fn one_if_empty(b: Block) -> u32
-    ensures { result ≡ one (is_empty b) }
-{
-    if b.flags & Block::FLAG_EMPTY != 0 {
-        1
-    } else {
-        0
-    }
-}
-
-// Updates a pool's counts after `n` units of its block `b` were marked.
+// Updates a pool's counts after `n` units of its block `b` were marked. A block flagged empty is one of its empty blocks no longer.
 fn counted(q: Pool, b: Block, n: u32) -> Pool
-    requires { (one (is_empty b) ≤ q.empty) × (q.used + n < 2 ^ 32) }
+    requires empty_counted { one (is_empty b) ≤ q.empty }
+    requires used_fits { q.used + n < 2 ^ 32 }
     ensures { result ≡ with_counts q (q.empty - one (is_empty b)) (q.used + n) }
 {
-    let mut r = q;
-    r.empty = q.empty - one_if_empty(b);
-    r.used = q.used + n;
-    r
+    Pool {
+        empty: q.empty - u32::from(b.flags & Block::FLAG_EMPTY != 0),
+        used: q.used + n,
+        ..q
+    }
 }
 
 // Makes the span of `n` units of block `j` at base + `from` units.
 fn span_from(s: State, j: usize, from: u32, n: u32) -> Span
-    requires { (j < slot_limit) × ((block_at s j).pool < 3) × (from + n ≤ (block_at s j).area) × ((block_at s j).base + (block_at s j).area * unit_of s (block_at s j) < 2 ^ 64) }
+    requires in_table { InTable s j }
+    requires inside { from + n ≤ (block_at s j).area }
+    requires addresses_fit { (block_at s j).base + (block_at s j).area * unit_of s (block_at s j) < 2 ^ 64 }
     ensures { result ≡ span ((block_at s j).base + bytes_of from (unit_of s (block_at s j))) (bytes_of n (unit_of s (block_at s j))) }
 {
     let b = state::block_at(s, j);
@@ -48,17 +41,18 @@ fn span_from(s: State, j: usize, from: u32, n: u32) -> Span
 
 // Writes block `j`'s record `marked` into the table, and counts its `n` units and one live span more.
 fn with_span(s: State, j: usize, marked: Block, n: u32) -> State
-    requires j_lt_slot_limit { (j < slot_limit) × ((block_at s j).pool < 3) × (one (is_empty (block_at s j)) ≤ (pool_at s (block_at s j).pool).empty) }
-    requires n_bound { ((pool_at s (block_at s j).pool).used + n < 2 ^ 32) × (s.live + 1 < 2 ^ 64) }
+    requires in_table { InTable s j }
+    requires empty_counted { one (is_empty (block_at s j)) ≤ (pool_at s (block_at s j).pool).empty }
+    requires used_fits { (pool_at s (block_at s j).pool).used + n < 2 ^ 32 }
+    requires live_fits { s.live + 1 < 2 ^ 64 }
     ensures { result ≡ with_live (put_pool (put_block s j marked) (block_at s j).pool
         (with_counts (pool_at s (block_at s j).pool) ((pool_at s (block_at s j).pool).empty - one (is_empty (block_at s j))) ((pool_at s (block_at s j).pool).used + n))) (s.live + 1) }
 {
     let b = state::block_at(s, j);
-    let p = b.pool;
-    let old = state::pool_at(s, p);
+    let old = state::pool_at(s, b.pool);
     let mut r = s;
     r.blocks[j] = marked;
-    r.pools[p] = counted(old, b, n);
+    r.pools[b.pool] = counted(old, b, n);
     r.live = s.live + 1;
     r
 }

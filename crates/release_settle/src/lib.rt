@@ -1,39 +1,27 @@
 // After units were freed: drops the block, or keeps it as its pool's empty one.
 #![tactic(auto)]
 
-ghost use Rattle.std.specs.Prelude.{◌≡◌, ◌<◌, ◌≤◌, length};
-ghost use Rattle.sizes.specs.Limits.{slot_limit};
+ghost use Rattle.std.specs.Prelude.{◌≡◌, ◌≤◌, length};
 ghost use Rattle.state.specs.declared.Answer.{Answer};
+ghost use Rattle.state.specs.InTable.{InTable};
 ghost use Rattle.state.specs.Table.{block_at, pool_at};
-ghost use Rattle.machine.specs.Turn.{turn, put_pool};
+ghost use Rattle.machine.specs.Turn.{turn};
 ghost use Rattle.machine.specs.Release.{less_used, settle};
 ghost use Rattle.shape_facts.specs.Ready.{Settles};
 
 use block::Block;
-use sizes::Pool;
 use state::State;
-
-// Replaces pool `p`.
-fn put_pool(s: State, p: usize, q: Pool) -> State
-    requires { p < 3 }
-    ensures { result ≡ put_pool s p q }
-{
-    let mut r = s;
-    r.pools[p] = q;
-    r
-}
 
 // Writes block `j`'s record `b` into the table, and takes `n` units off its pool's used count.
 pub fn less_used(s: State, j: usize, b: Block, n: u32) -> State
-    requires { (j < slot_limit) × ((block_at s j).pool < 3) × (n ≤ (pool_at s (block_at s j).pool).used) }
+    requires in_table { InTable s j }
+    requires counted { n ≤ (pool_at s (block_at s j).pool).used }
     ensures { result ≡ less_used s j b n }
 {
     let old = state::block_at(s, j);
-    let p = old.pool;
-    let mut q = state::pool_at(s, p);
-    q.used = q.used - n;
-    let mut r = put_pool(s, p, q);
+    let mut r = s;
     r.blocks[j] = b;
+    r.pools[old.pool].used -= n;
     r
 }
 
@@ -47,13 +35,13 @@ pub fn settle(s: State, used: &mut [u32], stop: &mut [u32], j: usize) -> State
     if b.used != 0 {
         return s;
     }
-    let p = b.pool;
-    let mut q = state::pool_at(s, p);
+    let q = state::pool_at(s, b.pool);
     if q.empty != 0 || s.immediate {
         slots::clear_slot(used, b.slot, s.w);
         slots::clear_slot(stop, b.slot, s.w);
         return table::remove::remove_block(s, j);
     }
-    q.empty = 1;
-    put_pool(s, p, q)
+    let mut r = s;
+    r.pools[b.pool].empty = 1;
+    r
 }

@@ -17,6 +17,7 @@ use Rattle.sizes.specs.declared.Pool.{Pool}
 use Rattle.state.specs.declared.State.{State}
 use Rattle.state.specs.declared.Found.{Found}
 use Rattle.state.specs.declared.Found.TheVariants.{At, Nothing}
+use Rattle.state.specs.InTable.{InTable}
 use Rattle.state.specs.Table.{block_at, pool_at}
 use Rattle.state.specs.declared.Held.TheVariants.{NoSpan, Range}
 use Rattle.state.specs.Find.{holds, least_from, lookup}
@@ -72,6 +73,9 @@ module _ (s : State) (u t : ℕ) (f : Shaped s u t) where
   pub pool_3 : (i : ℕ) → i < s.count → (block_at s i).pool < 3
   pool_3 i h = omega (arith, (f.sound i h).pool, f.head.pools_high)
 
+  pub in_table : (i : ℕ) → i < s.count → InTable s i
+  in_table i h = record { age = omega (arith, h, count_64); pool = pool_3 i h }
+
   -- every pool's unit is g
   pub unit_g : (p : ℕ) → p < 3 → (pool_at s p).granularity ≡ s.granularity
   unit_g p h = ap (λ (q : Pool). q.granularity) (f.pools p h)
@@ -90,8 +94,8 @@ module _ (s : State) (u t : ℕ) (f : Shaped s u t) where
 
   -- what stands there may be asked
   pub askable : (j a : ℕ) → j < s.count → holds (block_at s j) a ≡ true
-      → (j < 64) × ((block_at s j).pool < 3) × Placed (block_at s j) s.w u t × AddressIn (block_at s j) (unit_of s (block_at s j)) a
-  askable j a h e = (omega (arith, count_64), pool_3 j h, placed j h, within j a h e)
+      → InTable s j × Placed (block_at s j) s.w u t × AddressIn (block_at s j) (unit_of s (block_at s j)) a
+  askable j a h e = (in_table j h, placed j h, within j a h e)
 
 -- ---- a block that the lookup finds holds the address
 pub found_in : (s : State) (a j : ℕ) → At j ≡ lookup s a → (j < s.count) × (holds (block_at s j) a ≡ true)
@@ -138,7 +142,6 @@ bytes_fit s u t f p n h l =
 
 -- some units of a block make a span
 pub spannable : (s : State) (u t : ℕ) → Shaped s u t → (j : ℕ) → j < s.count → (n : ℕ) → n ≤ (block_at s j).area
-    → (j < 64) × ((block_at s j).pool < 3) × (n * unit_of s (block_at s j) < 2 ^ 64)
+    → InTable s j × (n * unit_of s (block_at s j) < 2 ^ 64)
 spannable s u t f j h n l =
-    let p = pool_3 s u t f j h in
-    (omega (arith, count_64 s u t f), p, omega (arith, bytes_fit s u t f (block_at s j).pool n p (omega (arith, (f.sound j h).area_high))))
+    (in_table s u t f j h, omega (arith, bytes_fit s u t f (block_at s j).pool n (pool_3 s u t f j h) (omega (arith, (f.sound j h).area_high))))

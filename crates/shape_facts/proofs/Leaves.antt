@@ -18,6 +18,7 @@ use Rattle.sizes.specs.Pools.{fresh_pool}
 use Rattle.state.specs.declared.State.{State}
 use Rattle.state.specs.declared.Found.{Found}
 use Rattle.state.specs.declared.Found.TheVariants.{At, Nothing}
+use Rattle.state.specs.InTable.{InTable}
 use Rattle.state.specs.Table.{zero_block, block_at, age_at, pool_at, one, only}
 use Rattle.state.specs.Shape.{is_zero, in_pool}
 use Rattle.state.specs.Find.{least}
@@ -26,7 +27,7 @@ use Rattle.state.proofs.Tests.{every_at, sum_term}
 use Rattle.state.proofs.Find.{Least, least_of}
 use Rattle.shape.specs.Parts.{pool_sum}
 use Rattle.shape.specs.Shaped.{Shaped}
-use Rattle.shape_facts.proofs.Facts.{count_64, pool_3, placed}
+use Rattle.shape_facts.proofs.Facts.{count_64, pool_3, in_table, placed}
 use Rattle.table.specs.Changeable.{Removable}
 use Rattle.machine.specs.Turn.{with_live, with_counts}
 use Rattle.machine.specs.Release.{less_used}
@@ -125,8 +126,8 @@ module _ (s : State) (u t : ℕ) (f : Shaped s u t) (j : ℕ) (h : j < s.count) 
       )
 
   -- so units of a span can be taken off
-  pub less_ready : (n : ℕ) → n ≤ (block_at s j).used → (j < 64) × ((block_at s j).pool < 3) × (n ≤ (pool_at s (block_at s j).pool).used)
-  less_ready n l = (omega (arith, h, count_64 s u t f), pool_3 s u t f j h, omega (arith, l, pool_used))
+  pub less_ready : (n : ℕ) → n ≤ (block_at s j).used → InTable s j × (n ≤ (pool_at s (block_at s j).pool).used)
+  less_ready n l = (in_table s u t f j h, omega (arith, l, pool_used))
 
   module _ (blocks : length s.blocks ≡ 64) (order : length s.order ≡ 64) where
     -- zeros behind, also behind the lists' ends

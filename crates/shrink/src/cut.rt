@@ -1,10 +1,10 @@
 // Cuts a span's tail off.
 ghost use Rattle.std.specs.Prelude.{◌≡◌, ◌-◌, ◌*◌, ◌^◌, ◌<◌, ◌≤◌, length};
 ghost use Rattle.numbers.specs.Units.{units_of};
-ghost use Rattle.sizes.specs.Limits.{slot_limit};
 ghost use Rattle.block.specs.Record.{SpanIn};
 ghost use Rattle.block.specs.Marking.{mark_shrunk};
 ghost use Rattle.state.specs.declared.Answer.{Answer};
+ghost use Rattle.state.specs.InTable.{InTable};
 ghost use Rattle.state.specs.Table.{block_at};
 ghost use Rattle.shape.specs.Shaped.{Shaped};
 ghost use Rattle.machine.specs.Turn.{turn_of, turn, unit_of};
@@ -29,7 +29,7 @@ fn cut_off(s: State, used: &mut [u32], stop: &mut [u32], j: usize, from: u32, to
 
 // Returns how many units of block `j` hold `size` bytes.
 fn units_for(s: State, j: usize, size: u64) -> u32
-    requires { (j < slot_limit) × ((block_at s j).pool < 3) × (0 < unit_of s (block_at s j)) × (size ≤ (2 ^ 32 - 1) * unit_of s (block_at s j)) }
+    requires { InTable s j × (0 < unit_of s (block_at s j)) × (size ≤ (2 ^ 32 - 1) * unit_of s (block_at s j)) }
     ensures { result ≡ units_of size (unit_of s (block_at s j)) }
 {
     let b = state::block_at(s, j);

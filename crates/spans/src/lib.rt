@@ -3,7 +3,7 @@
 
 ghost use Rattle.std.specs.Prelude.{◌≡◌, ◌*◌, ◌^◌, ◌<◌, ◌+◌, ◌-◌, ◌%◌, ◌≤◌, length};
 ghost use Rattle.numbers.specs.Units.{bytes_of};
-ghost use Rattle.sizes.specs.Limits.{slot_limit};
+ghost use Rattle.state.specs.InTable.{InTable};
 ghost use Rattle.state.specs.Table.{block_at};
 ghost use Rattle.machine.specs.Turn.{span, unit_of};
 ghost use Rattle.block.specs.Record.{Placed};
@@ -15,7 +15,7 @@ use state::{Held, Span, State};
 
 // Makes the span of `n` units at an address of block `j`.
 pub fn span_at(s: State, j: usize, address: u64, n: u32) -> Span
-    requires { (j < slot_limit) × ((block_at s j).pool < 3) × (n * unit_of s (block_at s j) < 2 ^ 64) }
+    requires { InTable s j × (n * unit_of s (block_at s j) < 2 ^ 64) }
     ensures { result ≡ span address (bytes_of n (unit_of s (block_at s j))) }
 {
     let b = state::block_at(s, j);
@@ -75,7 +75,7 @@ fn held_of(b: Block, used: &[u32], stop: &[u32], w: usize, unit: u64, address: u
 
 // Finds the span that starts at an address of the block of age `j`.
 pub fn held_in(s: State, used: &[u32], stop: &[u32], j: usize, address: u64) -> Held
-    requires { (j < slot_limit) × ((block_at s j).pool < 3) × Placed (block_at s j) s.w (length used.now) (length stop.now) × AddressIn (block_at s j) (unit_of s (block_at s j)) address }
+    requires { InTable s j × Placed (block_at s j) s.w (length used.now) (length stop.now) × AddressIn (block_at s j) (unit_of s (block_at s j)) address }
     ensures { result ≡ held_in s used.now stop.now address j }
 {
     let b = state::block_at(s, j);

@@ -3,3 +3,4 @@ pub mod Shape
 pub mod Find
 pub mod Change
 pub mod Outcome
+pub mod InTable

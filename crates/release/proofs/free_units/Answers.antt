@@ -46,7 +46,9 @@ mark_released_area-less-requires c =
 
 pub less_used-r-requires : goal.less_used-r-requires
 less_used-r-requires c =
-    let a = c.args in less_ready a.s (length a.used.now) (length a.stop.now) c.requires.shaped.0 a.j c.requires.shaped.1 _ c.requires.from_bound.0
+    let a = c.args in
+    let p = less_ready a.s (length a.used.now) (length a.stop.now) c.requires.shaped.0 a.j c.requires.shaped.1 (a.to - a.from) c.requires.from_bound.0 in
+    record { in_table = p.0; counted = p.1 }
 
 -- whatever the live count is
 settles : (c : After-less_used-r) (live : ℕ) → let m = c.mark_released_area-less in Stays m.result (block_at c.args.s c.args.j)
