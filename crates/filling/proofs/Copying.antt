@@ -1,12 +1,10 @@
 -- What a query shows through an image lies in it, at the address; and what is written where nothing is shown. Assumes nothing.
 use Prim.Native.Nat.{ℕ, ◌+◌, ◌≤◌}
 use mathlib.Core.Bool.{Bool}
-use mathlib.Core.List.{List, [], ◌∷◌}
+use mathlib.Core.List.{List}
 use mathlib.Core.Path.{◌≡◌, refl, sym, ap, subst}
 use native.Mathlib.Omega.{arith}
 use borrow.Author.Tests.{le-leb, lt-leb}
-use types.Run.{OneOf, miss}
-use denote.Enum.Declared.{tag_of}
 use lib.ListN.{length}
 use Rattle.numbers.specs.Pick.{pick}
 use Rattle.state.specs.declared.State.{State}
@@ -14,7 +12,6 @@ use Rattle.state.specs.declared.Span.{Span}
 use Rattle.state.specs.declared.Refusal.TheVariants.{InvalidArgument, BadShape}
 use Rattle.state.specs.declared.Answer.{Answer}
 use Rattle.state.specs.declared.Answer.TheVariants.{Created, Granted, Released, Shrunk, Shown, Reset, Refused}
-use Rattle.state.specs.contracts.Answer.{the_type}
 use Rattle.state.specs.Shape.{bad_shape}
 use Rattle.machine.specs.Turn.{Turn}
 use Rattle.machine.specs.Span.{query_turn}
@@ -22,7 +19,7 @@ use Rattle.machine.proofs.Cases.{query_cases}
 use Rattle.filling.specs.InArena.{InArena}
 use Rattle.filling.proofs.Inside.{span_inside}
 use Rattle.filling.proofs.Lent.{lent_refused, lent_granted, lent_cases}
-use Rattle.filling.specs.Copying.{fits, written, looked_up}
+use Rattle.filling.specs.Copying.{fits, looked_up}
 
 -- a span that is shown is such
 abbrev pub IfShown : (Span → Type 0) → Answer → Type 0
@@ -54,17 +51,6 @@ module _ (s : State) (u t : List ℕ) (room a : ℕ) where
   looked_lies =
       lent_cases s u t room (λ (x : Turn). IfShown (LiesWithin s.arena room a) x.answer) (query_turn s u t a)
       (λ e. subst (λ (n : ℕ). IfShown (LiesWithin s.arena n a) (query_turn s u t a).answer) (sym e) shown_lies) (λ why. tt)
-
--- ---- where nothing is shown
-pub not_shown : (arena offset : ℕ) (bytes image : List ℕ) (x : Answer) → OneOf (0 ∷ 1 ∷ 2 ∷ 3 ∷ 5 ∷ 6 ∷ []) (tag_of the_type x)
-    → (x ≡ fits offset (length bytes) x) × (image ≡ written arena offset bytes image (fits offset (length bytes) x))
-not_shown arena offset bytes image (Created size g pools) h = (refl, refl)
-not_shown arena offset bytes image (Granted x) h = (refl, refl)
-not_shown arena offset bytes image (Released x) h = (refl, refl)
-not_shown arena offset bytes image (Shrunk x) h = (refl, refl)
-not_shown arena offset bytes image (Shown x) h = absurd (miss (0 ∷ 1 ∷ 2 ∷ 3 ∷ 5 ∷ 6 ∷ []) 4 tt h)
-not_shown arena offset bytes image Reset h = (refl, refl)
-not_shown arena offset bytes image (Refused why) h = (refl, refl)
 
 -- ---- a span's room
 pub no_room : (offset n : ℕ) (x : Span) → x.size + 1 ≤ offset + n → Refused InvalidArgument ≡ fits offset n (Shown x)

@@ -196,6 +196,21 @@ module _ (s : State) (u t : List ℕ) where
   unused_refused soft_reset why = refl
   unused_refused hard_reset why = refl
 
+  -- a hard reset keeps no block
+  pub hard_none : kept_bytes (reset_turn s u t true).state (reset_turn s u t true).answer ≡ []
+  unfolding reset_turn
+  hard_none =
+      picked (λ (x : Turn). kept_bytes x.state x.answer ≡ []) (bad_shape s (length u) (length t)) (refuse BadShape s u t) _ (λ e. refl) (λ e. blocks_none (empty_table s))
+
+  module _ (bytes : ℕ) (ne : bytes ≡ s.length → ⊥) where
+    -- so with an image of another length every call is refused, and fills nothing
+    pub refused_turn : (r : Outcome) → r ≡ refusal s (pick (bad_shape s (length u) (length t)) BadShape InvalidArgument)
+        → (c : Call) → turn r.answer r.state u t ≡ lent_step s u t bytes c
+    refused_turn r e c = ap (λ (o : Outcome). turn o.answer o.state u t) e ∙ sym (lent_refused s u t bytes (step s u t c) ne)
+
+    pub refused_none : (c : Call) → unused s u t c (lent_step s u t bytes c) ≡ []
+    refused_none c = ap (unused s u t c) (lent_refused s u t bytes (step s u t c) ne) ∙ unused_refused c (pick (bad_shape s (length u) (length t)) BadShape InvalidArgument)
+
   -- nor does one that is refused at all
   refused_made : (size : ℕ) (why : Refusal) → (alloc_turn s u t size).answer ≡ Refused why → made s.count (alloc_turn s u t size).state ≡ []
   refused_made size why =
@@ -215,32 +230,6 @@ module _ (s : State) (u t : List ℕ) where
 
 -- ---- the image afterwards
 module _ (s : State) (u t : List ℕ) (pattern : ℕ) (image : List ℕ) where
-  abbrev IsLent : Call → Turn → List ℕ → Type 0
-  IsLent c x after = (x ≡ lent_step s u t (length image) c) × (after ≡ image_after s u t pattern image c)
-
-  -- a call, and the fill of what it leaves unused
-  pub lent_fills : (c : Call) (x : Turn) (after : List ℕ) → x ≡ step s u t c → lent_step s u t (length image) c ≡ step s u t c
-      → after ≡ filled_image s.arena pattern image (unused s u t c x) → IsLent c x after
-  lent_fills c x after e l f = (e ∙ sym l, f ∙ ap (λ (y : Turn). filled_image s.arena pattern image (unused s u t c y)) (e ∙ sym l))
-
-  -- the two fills of a shrink come to what it leaves unused
-  pub both_fills : (a size : ℕ) (was : Answer) → was ≡ (query_turn s u t a).answer → (x : Turn) (one two : List ℕ) → one ≡ filled_image s.arena pattern image (freed x.answer)
-      → two ≡ filled_image s.arena pattern one (cut_off was x.answer) → two ≡ filled_image s.arena pattern image (unused s u t (shrink a size) x)
-  both_fills a size was q x one two e f =
-      f ∙ ap (λ (y : List ℕ). filled_image s.arena pattern y (cut_off was x.answer)) e
-      ∙ sym (filled-append s.arena pattern image (freed x.answer) (cut_off was x.answer))
-      ∙ ap (λ (w : Answer). filled_image s.arena pattern image (freed x.answer ++ cut_off w x.answer)) q
-
-  pub not_lent : (c : Call) (r : Outcome) → (length image ≡ s.length → ⊥)
-      → r ≡ refusal s (pick (bad_shape s (length u) (length t)) BadShape InvalidArgument) → IsLent c (turn r.answer r.state u t) image
-  not_lent c r ne e =
-      let why = pick (bad_shape s (length u) (length t)) BadShape InvalidArgument in
-      let same : refuse why s u t ≡ lent_step s u t (length image) c = sym (lent_refused s u t (length image) (step s u t c) ne) in (
-        ap (λ (o : Outcome). turn o.answer o.state u t) e ∙ same,
-        sym (filled_none s.arena pattern image) ∙ ap (filled_image s.arena pattern image) (sym (unused_refused s u t c why))
-            ∙ ap (λ (y : Turn). filled_image s.arena pattern image (unused s u t c y)) same,
-      )
-
   -- ---- which bytes stay
   abbrev after : Call → List ℕ
   after c = image_after s u t pattern image c
@@ -265,16 +254,11 @@ module _ (s : State) (u t : List ℕ) (pattern : ℕ) (image : List ℕ) where
       ap (λ (xs : List Span). get_or (filled_image s.arena pattern image xs) (k - s.arena) 0) (unused_refused s u t c why)
       ∙ ap (λ (y : List ℕ). get_or y (k - s.arena) 0) (filled_none s.arena pattern image))
 
-  -- a hard reset keeps no block
-  hard_none : kept_bytes (reset_turn s u t true).state (reset_turn s u t true).answer ≡ []
-  unfolding reset_turn
-  hard_none =
-      picked (λ (x : Turn). kept_bytes x.state x.answer ≡ []) (bad_shape s (length u) (length t)) (refuse BadShape s u t) _ (λ e. refl) (λ e. blocks_none (empty_table s))
-
+  -- a hard reset fills none
   pub hard_fills_none : (x : Turn) → x ≡ reset_turn s u t true → image ≡ filled_image s.arena pattern image (unused s u t hard_reset x)
   hard_fills_none x e =
       sym (filled_none s.arena pattern image)
-      ∙ ap (filled_image s.arena pattern image) (sym (ap (λ (y : Turn). kept_bytes y.state y.answer) e ∙ hard_none))
+      ∙ ap (filled_image s.arena pattern image) (sym (ap (λ (y : Turn). kept_bytes y.state y.answer) e ∙ hard_none s u t))
 
 -- ---- the table has room for what is made or kept
 module _ (s : State) (u t : List ℕ) where
@@ -303,3 +287,6 @@ module _ (s : State) (u t : List ℕ) where
       few r g =
           count_64 r (length (clear_blocks s s.count u)) (length (clear_blocks s s.count t))
           (shaped_is r (length (clear_blocks s s.count u)) (length (clear_blocks s s.count t)) g)
+
+-- for the function `shrink`, whose two fills come one after the other
+pub ruleset cut_lent = (shrink_lent, filled-append)

@@ -9,18 +9,14 @@ use mathlib.Core.Bool.{Bool}
 use mathlib.Core.Logic.{inl, inr, ⊎_elim}
 use borrow.Author.Tests.{lt-ltb, le-ltb}
 use Rattle.numbers.specs.Pick.{pick}
-use types.Run.{OneOf, miss}
-use denote.Enum.Declared.{tag_of}
-use Rattle.state.specs.contracts.Answer.{the_type}
-use Rattle.state.specs.declared.Answer.{Answer}
-use Rattle.state.specs.declared.Answer.TheVariants.{Created, Granted, Released, Shrunk, Shown, Reset, Refused}
 use lib.ListN.{length, get_or}
 use Rattle.image.specs.Image.{filled_at}
 use Rattle.image.proofs.Image.{length_filled, filled_out}
 use Rattle.state.specs.declared.State.{State}
 use Rattle.state.specs.declared.Span.{Span}
 use Rattle.state.specs.Table.{block_at}
-use Rattle.filling.specs.Unused.{bytes_of_block, made, freed, tail_of, cut_off, blocks_up_to, kept_bytes, filled_image}
+use Rattle.reset.proofs.Walk.{block_here}
+use Rattle.filling.specs.Unused.{bytes_of_block, made, blocks_up_to, filled_image}
 use Rattle.filling.specs.InArena.{InArena, AllInArena, Outside}
 
 pub filled_none : (arena pattern : ℕ) (image : List ℕ) → filled_image arena pattern image [] ≡ image
@@ -82,43 +78,6 @@ pub filled_start : (arena : ℕ) (r : State) (pattern : ℕ) (image : List ℕ) 
 unfolding blocks_up_to filled_image
 filled_start arena r pattern image = refl
 
--- ---- answers that free nothing, by the numbers of the variants that are left
-pub freed_none : (a : Answer) → OneOf (0 ∷ 1 ∷ 3 ∷ 4 ∷ 5 ∷ 6 ∷ []) (tag_of the_type a) → freed a ≡ []
-freed_none (Created size g pools) h = refl
-freed_none (Granted x) h = refl
-freed_none (Released x) h = absurd (miss (0 ∷ 1 ∷ 3 ∷ 4 ∷ 5 ∷ 6 ∷ []) 2 tt h)
-freed_none (Shrunk x) h = refl
-freed_none (Shown x) h = refl
-freed_none Reset h = refl
-freed_none (Refused r) h = refl
-
-pub behind_none : (x : Span) (was : Answer) → OneOf (0 ∷ 1 ∷ 2 ∷ 3 ∷ 5 ∷ 6 ∷ []) (tag_of the_type was) → tail_of x was ≡ []
-behind_none x (Created size g pools) h = refl
-behind_none x (Granted y) h = refl
-behind_none x (Released y) h = refl
-behind_none x (Shrunk y) h = refl
-behind_none x (Shown y) h = absurd (miss (0 ∷ 1 ∷ 2 ∷ 3 ∷ 5 ∷ 6 ∷ []) 4 tt h)
-behind_none x Reset h = refl
-behind_none x (Refused r) h = refl
-
-pub cut_none : (was a : Answer) → OneOf (0 ∷ 1 ∷ 2 ∷ 4 ∷ 5 ∷ 6 ∷ []) (tag_of the_type a) → cut_off was a ≡ []
-cut_none was (Created size g pools) h = refl
-cut_none was (Granted y) h = refl
-cut_none was (Released y) h = refl
-cut_none was (Shrunk y) h = absurd (miss (0 ∷ 1 ∷ 2 ∷ 4 ∷ 5 ∷ 6 ∷ []) 3 tt h)
-cut_none was (Shown y) h = refl
-cut_none was Reset h = refl
-cut_none was (Refused r) h = refl
-
-pub kept_none : (r : State) (a : Answer) → OneOf (0 ∷ 1 ∷ 2 ∷ 3 ∷ 4 ∷ 6 ∷ []) (tag_of the_type a) → kept_bytes r a ≡ []
-kept_none r (Created size g pools) h = refl
-kept_none r (Granted y) h = refl
-kept_none r (Released y) h = refl
-kept_none r (Shrunk y) h = refl
-kept_none r (Shown y) h = refl
-kept_none r Reset h = absurd (miss (0 ∷ 1 ∷ 2 ∷ 3 ∷ 4 ∷ 6 ∷ []) 5 tt h)
-kept_none r (Refused why) h = refl
-
 -- ---- the bytes outside all of the spans stay
 pub filled_stays : (arena pattern length k : ℕ) (image : List ℕ) (xs : List Span) → AllInArena arena length xs → arena ≤ k → Outside k xs
     → get_or (filled_image arena pattern image xs) (k - arena) 0 ≡ get_or image (k - arena) 0
@@ -128,3 +87,8 @@ filled_stays arena pattern length k image (x ∷ xs) w a o =
     filled_stays arena pattern length k (filled_at image (x.address - arena) x.size pattern) xs w.1 a o.1
     ∙ filled_out image (x.address - arena) x.size pattern (k - arena)
     (⊎_elim (λ p. inl (omega (arith, p, a, w.0.low))) (λ p. inr (omega (arith, p, a, w.0.low))) o.0)
+
+-- ---- for the functions that fill
+pub ruleset makes = (made-one, made_none)
+
+pub ruleset walks = (block_here, filled_more, filled_start, blocks_within, length_filled_all)

@@ -23,10 +23,7 @@ fn write(image: &mut [u8], arena: u64, x: Span, offset: u64, bytes: &[u8]) -> An
     ensures image_after { image.new ≡ written arena offset bytes.now image.old result }
 {
     let n = bytes.len() as u64;
-    if x.size < n {
-        return Answer::Refused(Refusal::InvalidArgument);
-    }
-    if x.size - n < offset {
+    if x.size < n || x.size - n < offset {
         return Answer::Refused(Refusal::InvalidArgument);
     }
     text::put_bytes(image, (x.address - arena + offset) as usize, bytes);
@@ -46,9 +43,8 @@ pub fn copy_from_slice(
     ensures value { result ≡ copy_answer s used.now stop.now (length image.old) address offset (length bytes.now) }
     ensures image_after { image.new ≡ copy_image s used.now stop.now image.old address offset bytes.now }
 {
-    let shown = look_up(s, used, stop, image.len(), address);
-    if let Answer::Shown(x) = shown {
-        return write(image, s.arena, x, offset, bytes);
+    match look_up(s, used, stop, image.len(), address) {
+        Answer::Shown(x) => write(image, s.arena, x, offset, bytes),
+        refused => refused,
     }
-    shown
 }

@@ -17,6 +17,7 @@ fn fill_span(image: &mut [u8], arena: u64, address: u64, size: u64, pattern: u32
 }
 
 // Fills a new block's bytes. There is a new block, of age `before`, if there are more blocks than before the call.
+#[tactic(auto, using(crate::proofs::Unused::makes), unfolding(crate::specs::Unused::filled_image))]
 pub fn fill_made(image: &mut [u8], arena: u64, before: usize, r: State, pattern: u32)
     requires { (before < r.count → before < slot_limit) × AllInArena arena (length image.old) (made before r) }
     ensures { image.new ≡ filled_image arena pattern image.old (made before r) }
@@ -45,9 +46,13 @@ fn fill_behind(image: &mut [u8], arena: u64, was: Answer, x: Span, pattern: u32)
     ensures { image.new ≡ filled_image arena pattern image.old (tail_of x was) }
 {
     if let Answer::Shown(y) = was {
-        if x.size < y.size {
-            fill_span(image, arena, x.address + x.size, y.size - x.size, pattern);
-        }
+        fill_span(
+            image,
+            arena,
+            x.address + x.size,
+            y.size.saturating_sub(x.size),
+            pattern,
+        );
     }
 }
 
@@ -63,15 +68,13 @@ pub fn fill_cut_off(image: &mut [u8], arena: u64, was: Answer, answer: Answer, p
 }
 
 // Fills all bytes of all blocks.
+#[tactic(auto, using(crate::proofs::Unused::walks))]
 fn fill_blocks(image: &mut [u8], arena: u64, r: State, pattern: u32)
     requires { (r.count ≤ slot_limit) × AllInArena arena (length image.old) (blocks_up_to r r.count) }
     ensures { image.new ≡ filled_image arena pattern image.old (blocks_up_to r r.count) }
 {
-    let mut i: usize = 0;
-    while i < r.count {
-        let b = state::block_at(r, i);
+    for b in &r.blocks[..r.count] {
         fill_span(image, arena, b.base, b.size, pattern);
-        i += 1;
     }
 }
 

@@ -8,6 +8,6 @@ use Rattle.filling.proofs.copy.copy_from_slice.Goals as goal
 pub write-requires : goal.write-requires
 write-requires c =
     let a = c.args in
-    let shown = sym c.look_up-shown.ensures ∙ c.in-Shown.is in
+    let shown = sym c.look_up.ensures ∙ c.in-Shown.is in
     (subst (IfShown (LiesWithin a.s.arena (length a.image.now) a.address)) shown
     (looked_lies a.s a.used.now a.stop.now (length a.image.now) a.address)).0

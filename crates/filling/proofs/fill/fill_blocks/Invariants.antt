@@ -1,10 +1,7 @@
-use Prim.Native.Nat.{◌-◌, ◌≤◌}
 use mathlib.Core.Path.{◌≡◌}
 use Rattle.filling.specs.Unused.{blocks_up_to, filled_image}
 use Rattle.filling.proofs.fill.fill_blocks.Given as goal
 
-abbrev pub invariant-loop-i : goal.invariant-loop-i
-invariant-loop-i l = (l.i ≤ l.r.count) × (l.image ≡ filled_image l.arena l.pattern l.initial.image (blocks_up_to l.r l.i))
-
-abbrev pub decreases-loop-i : goal.decreases-loop-i
-decreases-loop-i l = l.r.count - l.i
+-- the image is the given one with the first blocks filled
+abbrev pub invariant-loop-b : goal.invariant-loop-b
+invariant-loop-b l = l.image ≡ filled_image l.arena l.pattern l.fn.image (blocks_up_to l.fn.r l.b-index)
