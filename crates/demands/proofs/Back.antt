@@ -12,7 +12,7 @@ use Rattle.runs.specs.Window.{FreeAt}
 use Rattle.slots.specs.Slots.{slot_of}
 use Rattle.block.specs.Marking.{marked}
 use Rattle.block.proofs.LiesAs.{lies_refl, lies_trans, marked_lies}
-use Rattle.sizes.specs.declared.Rounded.TheVariants.{To}
+use Rattle.std.specs.declared.result.Result.TheVariants.{Ok}
 use Rattle.sizes.specs.declared.Pool.{Pool}
 use Rattle.sizes.specs.Pools.{pool_of, fresh_pool}
 use Rattle.sizes.specs.Sizes.{rounded}
@@ -189,7 +189,7 @@ module _ {s : State} {u t : List ℕ} {l : List Span} (k : Known s u t l) (size 
       )
 
 -- ---- the statements
-module _ {s : State} {u t : List ℕ} {l : List Span} (r : Reached s u t l) (size bytes a z : ℕ) (rounds : rounded size s.granularity ≡ To bytes)
+module _ {s : State} {u t : List ℕ} {l : List Span} (r : Reached s u t l) (size bytes a z : ℕ) (rounds : rounded size s.granularity ≡ Ok bytes)
     (granted : (step s u t (alloc size)).answer ≡ Granted (span a z)) where
   -- the state that the allocation leaves, and the one that the release leaves
   abbrev pub first : Turn

@@ -9,8 +9,9 @@ use lib.ListN.{length}
 use Rattle.numbers.specs.Units.{units_of}
 use Rattle.numbers.proofs.Bools.{not_both}
 use Rattle.block.specs.declared.Block.{Block}
-use Rattle.sizes.specs.declared.Rounded.{Rounded}
-use Rattle.sizes.specs.declared.Rounded.TheVariants.{To}
+use Rattle.sizes.specs.declared.SizeError.{SizeError}
+use Rattle.std.specs.declared.result.Result.{Result}
+use Rattle.std.specs.declared.result.Result.TheVariants.{Ok}
 use Rattle.sizes.specs.Pools.{pool_of}
 use Rattle.sizes.specs.Sizes.{rounded, ideal_size}
 use Rattle.sizes.proofs.Pools.{pool_below}
@@ -49,7 +50,7 @@ use Rattle.ledger.proofs.Step.{combed, left}
 use Rattle.ledger.proofs.Reached.{Known, reached_known}
 use Rattle.demands.specs.Alloc.{Taken, words_for, Made, CannotMake, Goes}
 
-pub two_sizes : (x : Rounded) (a b : ℕ) → x ≡ To a → x ≡ To b → a ≡ b
+pub two_sizes : (x : Result ℕ SizeError) (a b : ℕ) → x ≡ Ok a → x ≡ Ok b → a ≡ b
 two_sizes x a b p q = cc
 
 module _ {s : State} {u t : List ℕ} {l : List Span} (k : Known s u t l) (size bytes : ℕ) (q : Seeks s u t size bytes) where
@@ -139,7 +140,7 @@ module _ {s : State} {u t : List ℕ} {l : List Span} (k : Known s u t l) (size 
   none e = subst (FirstFrom s u p n 0) e cb.first
 
 -- ---- the statements
-module _ {s : State} {u t : List ℕ} {l : List Span} (r : Reached s u t l) (size bytes : ℕ) (rounds : rounded size s.granularity ≡ To bytes) where
+module _ {s : State} {u t : List ℕ} {l : List Span} (r : Reached s u t l) (size bytes : ℕ) (rounds : rounded size s.granularity ≡ Ok bytes) where
   abbrev known : Known s u t l
   known = reached_known r
 

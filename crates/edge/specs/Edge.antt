@@ -1,12 +1,11 @@
 -- Document 01, Edge figures at g = 64 and base block size 65,536: the starred rows, and one claim about all of them. Assumes nothing.
-use Rattle.std.specs.Prelude.{◌≡◌, refl, Bool, true, false, ◌&&◌, List, [], ◌∷◌, ℕ, ◌-◌, ◌*◌, ◌^◌, eqb}
+use Rattle.std.specs.Prelude.{◌≡◌, refl, Bool, true, false, ◌&&◌, List, [], ◌∷◌, ℕ, ◌-◌, ◌*◌, ◌^◌, eqb, Result, Ok, Err}
 use Rattle.numbers.specs.Units.{units_of}
-use Rattle.sizes.specs.declared.Rounded.{Rounded}
-use Rattle.sizes.specs.declared.Rounded.TheVariants.{To, Refused}
+use Rattle.sizes.specs.declared.SizeError.{SizeError}
 use Rattle.block.specs.declared.Block.{Block}
 use Rattle.block.specs.Marking.{fresh, marked}
 use Rattle.sizes.specs.Pools.{pool_of}
-use Rattle.sizes.specs.Sizes.{rounded, ideal_size}
+use Rattle.sizes.specs.Sizes.{number, rounded, ideal_size}
 
 -- what a figure tells; requests are not rounded yet
 pub data Figure : Type 0 where
@@ -22,13 +21,13 @@ pub data Figure : Type 0 where
   marking : ℕ → Figure
 
 -- a refusal's number, or 0 and the rounded size
-abbrev pub told : Rounded → List ℕ
-told (To n) = 0 ∷ n ∷ []
-told (Refused number) = number ∷ []
+abbrev pub told : Result ℕ SizeError → List ℕ
+told (Ok n) = 0 ∷ n ∷ []
+told (Err why) = number why ∷ []
 
-abbrev pub bytes : Rounded → ℕ
-bytes (To n) = n
-bytes (Refused number) = 0
+abbrev pub bytes : Result ℕ SizeError → ℕ
+bytes (Ok n) = n
+bytes (Err why) = 0
 
 abbrev pub span : ℕ → ℕ
 span asked = bytes (rounded asked 64)

@@ -13,7 +13,8 @@ use Rattle.numbers.specs.Align.{align_up}
 use Rattle.numbers.specs.Units.{units_of, bytes_of}
 use Rattle.numbers.proofs.Bools.{picked, or_cases, or_fails}
 use Rattle.block.specs.Marking.{mark_released}
-use Rattle.sizes.specs.declared.Rounded.TheVariants.{To, Refused as unroundable}
+use Rattle.std.specs.declared.result.Result.TheVariants.{Ok, Err}
+use Rattle.sizes.specs.declared.SizeError.TheVariants as size_error
 use Rattle.sizes.specs.Sizes.{rounded, ideal_size}
 use Rattle.sizes.proofs.Sizes.{rounded_is}
 use Rattle.state.specs.declared.State.{State}
@@ -71,7 +72,7 @@ pub record Cuts (s : State) (u t : List ℕ) (a size j i e n : ℕ) : Type 0 whe
 -- a request of so many bytes, once rounded
 pub record Seeks (s : State) (u t : List ℕ) (size bytes : ℕ) : Type 0 where
   pub good : Good s u t
-  pub is : rounded size s.granularity ≡ To bytes
+  pub is : rounded size s.granularity ≡ Ok bytes
 
 -- the search of its pool leaves all but the blocks' records
 module _ (s : State) (u : List ℕ) (bytes : ℕ) where
@@ -307,8 +308,8 @@ module _ (P : Turn → Type 0) (s : State) (u t : List ℕ) where
     searched k Nowhere e = place k e _ _ refl refl
 
     known : Good s u t → (none : Bool) → eqb z 0 ≡ none → (much : Bool) → ltb 2147483647 z ≡ much
-        → rounded size s.granularity ≡ pick none (unroundable 1) (pick much (unroundable 2) (To z))
-        → P (alloc_rounded s u t (pick none (unroundable 1) (pick much (unroundable 2) (To z))))
+        → rounded size s.granularity ≡ pick none (Err size_error.InvalidArgument) (pick much (Err size_error.TooLarge) (Ok z))
+        → P (alloc_rounded s u t (pick none (Err size_error.InvalidArgument) (pick much (Err size_error.TooLarge) (Ok z))))
     known good true e much d is = refused InvalidArgument (λ x. omega arith) (good, eqb-true z 0 e)
     known good false e true d is = refused TooLarge (λ x. omega arith) (good, ltb-true 2147483647 z d)
     known good false e false d is = searched (record { good = good; is = is }) (search_for s u z).hit refl

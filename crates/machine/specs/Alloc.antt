@@ -1,5 +1,5 @@
 -- Document 01, Size, Pool, Search, New block and Marking: the call alloc. Assumes nothing.
-use Rattle.std.specs.Prelude.{ℕ, zero, suc, ◌+◌, ◌-◌, leb, eqb, length}
+use Rattle.std.specs.Prelude.{ℕ, zero, suc, ◌+◌, ◌-◌, leb, length, Result, Ok, Err}
 use Rattle.numbers.specs.Names.{Address, Bytes, Units, Age, Map}
 use Rattle.numbers.specs.Pick.{pick}
 use Rattle.numbers.specs.Units.{units_of, bytes_of}
@@ -7,8 +7,7 @@ use Rattle.block.specs.declared.Looked.{Looked}
 use Rattle.block.specs.declared.Looked.TheVariants.{Found as found, Missed as missed}
 use Rattle.block.specs.Marking.{mark_allocated, fresh}
 use Rattle.block.specs.Search.{look_into}
-use Rattle.sizes.specs.declared.Rounded.{Rounded}
-use Rattle.sizes.specs.declared.Rounded.TheVariants.{To, Refused}
+use Rattle.sizes.specs.declared.SizeError.{SizeError}
 use Rattle.sizes.specs.Pools.{pool_of}
 use Rattle.sizes.specs.Sizes.{rounded, ideal_size}
 use Rattle.state.specs.declared.State.{State}
@@ -19,10 +18,11 @@ use Rattle.state.specs.declared.Place.TheVariants.{Base, Nowhere as noPlace}
 use Rattle.state.specs.declared.Hit.{Hit}
 use Rattle.state.specs.declared.Hit.TheVariants.{At, Nowhere}
 use Rattle.state.specs.declared.Searched.{Searched}
-use Rattle.state.specs.declared.Refusal.TheVariants.{InvalidArgument, TooLarge, NoMapping, BadShape}
+use Rattle.state.specs.declared.Refusal.TheVariants.{NoMapping, BadShape}
 use Rattle.state.specs.declared.Answer.TheVariants.{Granted}
 use Rattle.state.specs.Table.{block_at, pool_at, one}
 use Rattle.state.specs.Shape.{bad_shape, is_empty, in_pool}
+use Rattle.state.specs.Outcome.{refusal_of}
 use Rattle.state.specs.Find.{lowest_slot, lowest_place, newest_size}
 use Rattle.state.specs.Change.{inserted}
 use Rattle.machine.specs.Turn.{Turn, turn, refuse, span, put_block, put_pool, with_live, with_counts, unit_of, clear_slot}
@@ -102,9 +102,9 @@ alloc_pool s u t size p =
     let x = search_pool s u p n in
     alloc_searched x.state u t p n size x.hit
 
-abbrev pub alloc_rounded : State → Map → Map → Rounded → Turn
-alloc_rounded s u t (To size) = alloc_pool s u t size (pool_for s size)
-alloc_rounded s u t (Refused k) = refuse (pick (eqb k 1) InvalidArgument TooLarge) s u t
+abbrev pub alloc_rounded : State → Map → Map → Result Bytes SizeError → Turn
+alloc_rounded s u t (Ok size) = alloc_pool s u t size (pool_for s size)
+alloc_rounded s u t (Err why) = refuse (refusal_of why) s u t
 
 unfoldable pub alloc_turn : State → Map → Map → Bytes → Turn
 alloc_turn s u t size = pick (bad_shape s (length u) (length t)) (refuse BadShape s u t) (alloc_rounded s u t (rounded size s.granularity))

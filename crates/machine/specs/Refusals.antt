@@ -1,8 +1,7 @@
 -- Document 01, Refusal numbers: what a refusal changes. Assumes nothing.
-use Rattle.std.specs.Prelude.{◌≡◌}
-use Rattle.numbers.specs.Names.{Map}
-use Rattle.sizes.specs.declared.Rounded.{Rounded}
-use Rattle.sizes.specs.declared.Rounded.TheVariants.{To, Refused as unroundable}
+use Rattle.std.specs.Prelude.{◌≡◌, Result, Ok, Err}
+use Rattle.numbers.specs.Names.{Bytes, Map}
+use Rattle.sizes.specs.declared.SizeError.{SizeError}
 use Rattle.sizes.specs.Sizes.{rounded}
 use Rattle.state.specs.declared.State.{State}
 use Rattle.state.specs.declared.Answer.{Answer}
@@ -31,9 +30,9 @@ LeftByRefusal s searched u t x (Shown span) = Unit {0}
 LeftByRefusal s searched u t x Reset = Unit {0}
 
 -- the record after the search for a size: the blocks that it looked into are tightened
-abbrev pub searched_for : State → Map → Rounded → State
-searched_for s u (To size) = (search_for s u size).state
-searched_for s u (unroundable k) = s
+abbrev pub searched_for : State → Map → Result Bytes SizeError → State
+searched_for s u (Ok size) = (search_for s u size).state
+searched_for s u (Err why) = s
 
 abbrev pub searched_by : State → Map → Call → State
 searched_by s u (alloc size) = searched_for s u (rounded size s.granularity)

@@ -105,18 +105,17 @@ fn base(rt: &impl Print, asked: u32) -> io::Result<()> {
 }
 
 // Writes ` to SIZE`, or ` refused N`.
-fn answer(rt: &impl Print, r: sizes::Rounded) -> io::Result<()> {
+fn answer(rt: &impl Print, r: Result<u64, sizes::SizeError>) -> io::Result<()> {
     match r {
-        sizes::Rounded::To(size) => {
+        Ok(size) => {
             print!(rt; " to")?;
-            number(rt, size)?;
+            number(rt, size)
         }
-        sizes::Rounded::Refused(n) => {
+        Err(why) => {
             print!(rt; " refused")?;
-            number(rt, n as u64)?;
+            number(rt, why as u64)
         }
     }
-    Ok(())
 }
 
 // Writes `round SIZE G to ROUNDED`, or `round SIZE G refused N`.

@@ -12,7 +12,8 @@ use Rattle.numbers.proofs.Bools.{picked}
 use Rattle.numbers.proofs.Align.{up_low, up_high, up_divides, up_zero}
 use Rattle.numbers.proofs.Split.{by_eq, by_le}
 use Rattle.numbers.specs.Align.{align_up}
-use Rattle.sizes.specs.declared.Rounded.TheVariants.{To, Refused}
+use Rattle.sizes.specs.declared.SizeError.TheVariants.{InvalidArgument}
+use Rattle.std.specs.declared.result.Result.TheVariants.{Ok, Err}
 use Rattle.sizes.specs.Limits.{is_granularity}
 use Rattle.sizes.specs.Sizes.{accepted, rounded, doubled, ideal_size}
 use Rattle.sizes.proofs.InForce.{granularity_is}
@@ -24,7 +25,7 @@ pub record Accepted (up n : ℕ) : Type 0 where
   pub some : 0 < n
   pub small : n ≤ 2147483647
 
-accepted_is : (up n : ℕ) → accepted up ≡ To n → Accepted up n
+accepted_is : (up n : ℕ) → accepted up ≡ Ok n → Accepted up n
 accepted_is up n h =
     by_eq up 0 (λ e. let r = rw (eq-eqb up 0 e) at h in let z : ◌≡◌ {A = ℕ} 0 1 = cc in absurd (omega arith)) (λ ne. by_le up 2147483647
     (λ l. let r = rw (ne_eqb up 0 ne, le-ltb 2147483647 up l) at h in let s : up ≡ n = cc in record {
@@ -35,7 +36,7 @@ accepted_is up n h =
     (λ l. let r = rw (ne_eqb up 0 ne, lt-ltb 2147483647 up l) at h in let z : ◌≡◌ {A = ℕ} 0 1 = cc in absurd (omega arith)))
 
 -- whatever the granularity
-pub rounded_is : (size g n : ℕ) → rounded size g ≡ To n → Accepted (align_up size g) n
+pub rounded_is : (size g n : ℕ) → rounded size g ≡ Ok n → Accepted (align_up size g) n
 unfolding rounded
 rounded_is size g n h = accepted_is (align_up size g) n h
 
@@ -47,7 +48,7 @@ pub record RoundedTo (size unit n : ℕ) : Type 0 where
   pub low : size ≤ n
   pub high : n < size + unit
 
-pub rounded_to : (size j n : ℕ) → j ≤ 64 → size < 2 ^ 64 → rounded size (2 ^ j) ≡ To n → RoundedTo size (2 ^ j) n
+pub rounded_to : (size j n : ℕ) → j ≤ 64 → size < 2 ^ 64 → rounded size (2 ^ j) ≡ Ok n → RoundedTo size (2 ^ j) n
 rounded_to size j n k l h = record {
   some = a.some;
   small = a.small;
@@ -64,21 +65,21 @@ rounded_to size j n k l h = record {
         by_le size (2 ^ 64 - 2 ^ j) (λ s. omega (arith, s, l, pow_pos j, pow_mono k))
         (λ s. let z = (up_zero size j k l).1 (inr s) in absurd (omega (arith, a.some, a.is, z)))
 
-pub rounded_to_granularity : (size g n : ℕ) → is_granularity g ≡ true → size < 2 ^ 64 → rounded size g ≡ To n → RoundedTo size g n
+pub rounded_to_granularity : (size g n : ℕ) → is_granularity g ≡ true → size < 2 ^ 64 → rounded size g ≡ Ok n → RoundedTo size g n
 rounded_to_granularity size g n good l h =
     let r = granularity_is g good in
     subst (λ (u : ℕ). RoundedTo size u n) (sym r.is)
-    (rounded_to size r.exponent n (omega (arith, r.high)) l (subst (λ (u : ℕ). rounded size u ≡ To n) r.is h))
+    (rounded_to size r.exponent n (omega (arith, r.high)) l (subst (λ (u : ℕ). rounded size u ≡ Ok n) r.is h))
 
 -- refusal 1 exactly for 0 and for what wraps
-pub refused-one : (size j : ℕ) → j ≤ 64 → size < 2 ^ 64 → (rounded size (2 ^ j) ≡ Refused 1) ↔ ((size ≡ 0) ⊎ (2 ^ 64 - 2 ^ j < size))
+pub refused-one : (size j : ℕ) → j ≤ 64 → size < 2 ^ 64 → (rounded size (2 ^ j) ≡ Err InvalidArgument) ↔ ((size ≡ 0) ⊎ (2 ^ 64 - 2 ^ j < size))
 unfolding rounded
 refused-one size j k l = (
   λ h. by_eq (align_up size (2 ^ j)) 0 (λ e. (up_zero size j k l).0 e) (λ ne. absurd (not-one (align_up size (2 ^ j)) ne h)),
   λ c. simp (eq-eqb (align_up size (2 ^ j)) 0 ((up_zero size j k l).1 c)),
 )
   where
-    not-one : (up : ℕ) → (up ≡ 0 → ⊥) → accepted up ≡ Refused 1 → ⊥
+    not-one : (up : ℕ) → (up ≡ 0 → ⊥) → accepted up ≡ Err InvalidArgument → ⊥
     not-one up ne h =
         by_le up 2147483647
         (λ s. let r = rw (ne_eqb up 0 ne, le-ltb 2147483647 up s) at h in let z : ◌≡◌ {A = ℕ} 0 1 = cc in omega arith)

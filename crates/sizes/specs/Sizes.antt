@@ -1,18 +1,23 @@
 -- Document 01, Size and New block: a request's rounded size, and the size of the block made for it. Assumes nothing.
-use Rattle.std.specs.Prelude.{◌*◌, ltb, eqb}
+use Rattle.std.specs.Prelude.{ℕ, ◌*◌, ltb, eqb, Result, Ok, Err}
 use Rattle.numbers.specs.Names.{Bytes}
 use Rattle.numbers.specs.Align.{align_up}
 use Rattle.numbers.specs.Pick.{pick}
 use Rattle.sizes.specs.Limits.{max_block_size, max_size}
-use Rattle.sizes.specs.declared.Rounded.{Rounded}
-use Rattle.sizes.specs.declared.Rounded.TheVariants.{To, Refused}
+use Rattle.sizes.specs.declared.SizeError.{SizeError}
+use Rattle.sizes.specs.declared.SizeError.TheVariants.{InvalidArgument, TooLarge}
+
+-- the numbers of the refusals
+abbrev pub number : SizeError → ℕ
+number InvalidArgument = 1
+number TooLarge = 2
 
 -- zero is refusal 1, above 2,147,483,647 is refusal 2
-abbrev pub accepted : Bytes → Rounded
-accepted size = pick (eqb size 0) (Refused 1) (pick (ltb max_size size) (Refused 2) (To size))
+abbrev pub accepted : Bytes → Result Bytes SizeError
+accepted size = pick (eqb size 0) (Err InvalidArgument) (pick (ltb max_size size) (Err TooLarge) (Ok size))
 
 -- round up to g; rounding up wraps at the top of 64 bits
-unfoldable pub rounded : Bytes → Bytes → Rounded
+unfoldable pub rounded : Bytes → Bytes → Result Bytes SizeError
 rounded size g = accepted (align_up size g)
 
 -- double it if it is below 33,554,432

@@ -62,31 +62,26 @@ pub fn size_to_pool_id(size: u64, granularity: u64, poolcount: usize) -> usize
 
 // ---- a request, and a new block for it
 
-#[derive(Clone, Copy)]
-pub enum Rounded {
-    To(u64),
-    Refused(u32),
-}
-
-impl Rounded {
-    pub const INVALID_ARGUMENT: u32 = 1;
-
-    pub const TOO_LARGE: u32 = 2;
+// Why a request's size is refused, with document 01's numbers.
+#[derive(Clone, Copy, Debug, PartialEq, Eq)]
+pub enum SizeError {
+    InvalidArgument = 1,
+    TooLarge = 2,
 }
 
 // Rounds a size up to the granularity, or refuses it. It rounds first: a size that wraps becomes 0, and is refused as 0 is.
-pub fn round_size(size: u64, granularity: u64) -> Rounded
+pub fn round_size(size: u64, granularity: u64) -> Result<u64, SizeError>
     requires { 0 < granularity }
     ensures { result ≡ rounded size granularity }
 {
     let rounded = numbers::align_up(size, granularity);
     if rounded == 0 {
-        return Rounded::Refused(Rounded::INVALID_ARGUMENT);
+        return Err(SizeError::InvalidArgument);
     }
     if rounded > MAX_SIZE {
-        return Rounded::Refused(Rounded::TOO_LARGE);
+        return Err(SizeError::TooLarge);
     }
-    Rounded::To(rounded)
+    Ok(rounded)
 }
 
 // Returns the size of a new block. `newest` is the size of the pool's newest block, or the base size if it has none. The Rust answers 0 if

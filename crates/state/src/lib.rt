@@ -4,10 +4,10 @@
 ghost use Rattle.std.specs.Prelude.{◌≡◌, ◌<◌};
 ghost use Rattle.sizes.specs.Limits.{slot_limit};
 ghost use Rattle.state.specs.Table.{zero_block, zero_state, block_at, pool_at};
-ghost use Rattle.state.specs.Outcome.{refusal};
+ghost use Rattle.state.specs.Outcome.{refusal, refusal_of};
 
 use block::Block;
-use sizes::Pool;
+use sizes::{Pool, SizeError};
 
 // The most blocks that the table holds, and so the most slots.
 pub const SLOT_LIMIT: usize = 64;
@@ -95,6 +95,17 @@ pub enum Refusal {
     NoMapping,
     BadShape,
     Damaged,
+}
+
+impl From<SizeError> for Refusal {
+    ghost from_gives = { λ why r. r ≡ refusal_of why };
+
+    fn from(why: SizeError) -> Refusal {
+        match why {
+            SizeError::InvalidArgument => Refusal::InvalidArgument,
+            SizeError::TooLarge => Refusal::TooLarge,
+        }
+    }
 }
 
 // What a call answers. `Created` has the base size, the granularity and the number of pools in force.

@@ -10,8 +10,9 @@ use Rattle.numbers.specs.Pick.{pick}
 use Rattle.numbers.specs.Units.{units_of, bytes_of}
 use Rattle.block.specs.declared.Block.{Block}
 use Rattle.block.specs.Marking.{mark_released}
-use Rattle.sizes.specs.declared.Rounded.{Rounded}
-use Rattle.sizes.specs.declared.Rounded.TheVariants.{To, Refused as unroundable}
+use Rattle.sizes.specs.declared.SizeError.{SizeError}
+use Rattle.std.specs.declared.result.Result.{Result}
+use Rattle.std.specs.declared.result.Result.TheVariants.{Ok, Err}
 use Rattle.sizes.specs.Sizes.{rounded, ideal_size}
 use Rattle.state.specs.declared.State.{State}
 use Rattle.state.specs.declared.Found.{Found}
@@ -194,9 +195,9 @@ module _ (s : State) (u t v v' : List ℕ) (z : Sized s) (room : s.slots * s.w �
         ap (λ (x : Searched). alloc_searched x.state (u ++ v) (t ++ v') p n bytes x.hit) search_same
         ∙ searched_behind (search_for s u bytes).hit refl
 
-  sized_behind : (size : ℕ) → Good → (x : Rounded) → rounded size s.granularity ≡ x → alloc_rounded s (u ++ v) (t ++ v') x ≡ behind (alloc_rounded s u t x) v v'
-  sized_behind size good (To bytes) e = pool_behind size bytes (record { good = good; is = e })
-  sized_behind size good (unroundable k) e = refl
+  sized_behind : (size : ℕ) → Good → (x : Result ℕ SizeError) → rounded size s.granularity ≡ x → alloc_rounded s (u ++ v) (t ++ v') x ≡ behind (alloc_rounded s u t x) v v'
+  sized_behind size good (Ok bytes) e = pool_behind size bytes (record { good = good; is = e })
+  sized_behind size good (Err why) e = refl
 
   alloc_behind : (size : ℕ) → alloc_turn s (u ++ v) (t ++ v') size ≡ behind (alloc_turn s u t size) v v'
   unfolding alloc_turn
