@@ -1,13 +1,14 @@
 -- Powers of two, and the code's test for one. Assumes nothing.
-use Prim.Native.Nat.{ℕ, zero, suc, ◌-◌, ◌/◌, ◌%◌, ◌^◌, ◌<◌}
-use mathlib.Core.Path.{◌≡◌, sym, ap, ◌∙◌, subst}
+use Prim.Native.Nat.{ℕ, zero, suc, ◌/◌, ◌%◌, ◌^◌, ◌<◌}
+use mathlib.Core.Path.{◌≡◌, refl, sym, ap, ◌∙◌}
 use mathlib.Core.Bool.{Bool, true, ◌||◌, or-true, false≢true}
 use mathlib.Core.Logic.{⊎_elim}
-use native.Mathlib.Nat.{pow-suc, mod_self, eq-or-lt_of_le}
+use native.Mathlib.Nat.{pow-suc, eq-or-lt_of_le}
 use native.Mathlib.Omega.{arith}
-use lib.Bits.{bit_and, and_step, and_self, and_mask}
+use lib.Count.{ones, ones_step}
 use lib.Dec.{eqb}
 use borrow.Author.Tests.{eq-eqb, ne_eqb}
+use Rattle.std.proofs.lemmas.Nat.{zero_from_ones, ones_le_self}
 use Rattle.numbers.proofs.Bools.{by_bool}
 use Rattle.numbers.proofs.Split.{by_eq}
 use Rattle.sizes.specs.Limits.{is_power_below, is_power_of_two}
@@ -33,32 +34,34 @@ power_is (suc n) x h =
     let r = power_is n x (rw (ne_eqb x (2 ^ n) ne) at h) in
     record { exponent = r.exponent; below = omega (arith, r.below); is = r.is })
 
--- a number and the one before it have no digit in common only if it has one digit
-mask_only : (n x : ℕ) → 0 < x → x < 2 ^ n → bit_and x (x - 1) ≡ 0 → PowerBelow n x
-mask_only zero x h l e = absurd (omega arith)
-mask_only (suc n) x h l e =
+-- a number has one digit only if it is a power of two
+one_only : (n x : ℕ) → x < 2 ^ n → ones x ≡ 1 → PowerBelow n x
+one_only zero x l e = absurd (omega (arith, ones_le_self x))
+one_only (suc n) x l e =
     by_eq (x % 2) 0 (λ z.
-    let half : (x - 1) / 2 ≡ x / 2 - 1 = omega arith in
-    let rest : bit_and (x / 2) ((x - 1) / 2) ≡ 0 = omega (arith, and_step x (x - 1)) in
-    let r = mask_only n (x / 2) (omega arith) (omega (arith, pow-suc 2 n)) (subst (λ (y : ℕ). bit_and (x / 2) y ≡ 0) half rest) in
+    let r = one_only n (x / 2) (omega (arith, pow-suc 2 n)) (omega (arith, ones_step x)) in
     record { exponent = suc r.exponent; below = omega (arith, r.below); is = omega (arith, r.is, pow-suc 2 r.exponent) })
     (λ z.
-    let half : (x - 1) / 2 ≡ x / 2 = omega arith in
-    let same : bit_and (x / 2) ((x - 1) / 2) ≡ x / 2 = ap (bit_and (x / 2)) half ∙ and_self (x / 2) in
-    record { exponent = 0; below = omega arith; is = omega (arith, and_step x (x - 1), same) })
+    let none : x / 2 ≡ 0 = zero_from_ones (x / 2) (omega (arith, ones_step x)) in
+    record { exponent = 0; below = omega arith; is = omega (arith, none) })
 
-mask_none : (k : ℕ) → bit_and (2 ^ k) (2 ^ k - 1) ≡ 0
-mask_none k = and_mask (2 ^ k) k ∙ mod_self (2 ^ k)
+one_one : ones 1 ≡ 1
+unfolding ones
+one_one = refl
 
--- the code's test for a power of two
-pub mask_test : (x : ℕ) → 0 < x → x < 2 ^ 64 → eqb (bit_and x (x - 1)) 0 ≡ is_power_of_two x
-mask_test x h l = by_eq (bit_and x (x - 1)) 0 yes no
+power_one : (k : ℕ) → ones (2 ^ k) ≡ 1
+power_one zero = one_one
+power_one (suc k) =
+    let half : 2 ^ suc k / 2 ≡ 2 ^ k = omega (arith, pow-suc 2 k) in
+    omega (arith, ones_step (2 ^ suc k), pow-suc 2 k, ap ones half, power_one k)
+
+-- the library's test for a power of two is document 01's
+pub one_bit : (x : ℕ) → x < 2 ^ 64 → eqb (ones x) 1 ≡ is_power_of_two x
+one_bit x l = by_eq (ones x) 1 yes no
   where
-    yes : bit_and x (x - 1) ≡ 0 → eqb (bit_and x (x - 1)) 0 ≡ is_power_of_two x
-    yes e = let r = mask_only 64 x h l e in eq-eqb _ _ e ∙ sym (power_below 64 x r.exponent r.below r.is)
+    yes : ones x ≡ 1 → eqb (ones x) 1 ≡ is_power_of_two x
+    yes e = let r = one_only 64 x l e in eq-eqb _ _ e ∙ sym (power_below 64 x r.exponent r.below r.is)
 
-    no : (bit_and x (x - 1) ≡ 0 → ⊥) → eqb (bit_and x (x - 1)) 0 ≡ is_power_of_two x
+    no : (ones x ≡ 1 → ⊥) → eqb (ones x) 1 ≡ is_power_of_two x
     no ne =
-        by_bool (is_power_of_two x)
-        (λ t. let r = power_is 64 x t in absurd (ne (ap (λ (y : ℕ). bit_and y (y - 1)) r.is ∙ mask_none r.exponent)))
-        (λ f. ne_eqb _ _ ne ∙ sym f)
+        by_bool (is_power_of_two x) (λ t. let r = power_is 64 x t in absurd (ne (ap ones r.is ∙ power_one r.exponent))) (λ f. ne_eqb _ _ ne ∙ sym f)

@@ -48,16 +48,12 @@ pub fn size_to_pool_id(size: u64, granularity: u64, poolcount: usize) -> usize
     requires { (size < 2 ^ 32) × (is_granularity granularity ≡ true) × ((poolcount ≡ 1) ⊎ (poolcount ≡ 3)) }
     ensures { result ≡ pool_of size granularity poolcount }
 {
-    let mut id = poolcount - 1;
-    let mut step = granularity << id;
-    while id != 0 {
-        if numbers::align_up(size, step) == size {
-            break;
+    for id in (1..poolcount).rev() {
+        if numbers::align_up(size, granularity << id) == size {
+            return id;
         }
-        id -= 1;
-        step >>= 1;
     }
-    id
+    0
 }
 
 // ---- a request, and a new block for it
@@ -70,6 +66,7 @@ pub enum SizeError {
 }
 
 // Rounds a size up to the granularity, or refuses it. It rounds first: a size that wraps becomes 0, and is refused as 0 is.
+#[tactic(auto, unfolding(crate::specs::Sizes::rounded))]
 pub fn round_size(size: u64, granularity: u64) -> Result<u64, SizeError>
     requires { 0 < granularity }
     ensures { result ≡ rounded size granularity }
@@ -91,12 +88,14 @@ pub fn calculate_ideal_block_size(newest: u64, size: u64) -> u64
     requires { (0 < newest) × (newest ≤ 2 ^ 27) × (size < 2 ^ 32) }
     ensures { result ≡ ideal_size newest size }
 {
-    let mut ideal = newest;
-    if ideal < MAX_BLOCK_SIZE {
-        ideal = ideal * 2;
-    }
+    let ideal = if newest < MAX_BLOCK_SIZE {
+        newest * 2
+    } else {
+        newest
+    };
     if size > ideal {
-        ideal = numbers::align_up(size, ideal);
+        numbers::align_up(size, ideal)
+    } else {
+        ideal
     }
-    ideal
 }
