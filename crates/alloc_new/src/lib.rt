@@ -8,7 +8,7 @@ ghost use Rattle.machine.specs.Alloc.{alloc_marked, alloc_new};
 ghost use Rattle.shape_facts.specs.Ready.{Makeable, Makes};
 
 use block::Block;
-use state::{Found, Outcome, Place, Refusal, State};
+use state::{Outcome, Refusal, State};
 
 // Clears the slot of the new block `b`, enters `b` into the table and grants a span of `n` units at its unit 0.
 fn make_span(s: State, used: &mut [u32], stop: &mut [u32], b: Block, n: u32) -> Outcome
@@ -38,11 +38,11 @@ pub fn new_span(
     ensures { turn_of result used.new stop.new ≡ alloc_new s used.old stop.old p n bytes }
 {
     let place = table::lowest_place(s, bytes);
-    let Place::Base(at) = place else {
+    let Some(at) = place else {
         return state::refused(s, Refusal::NoMapping);
     };
     let slot = table::lowest_free_slot(s);
-    let Found::At(k) = slot else {
+    let Some(k) = slot else {
         return state::refused(s, Refusal::NoMapping);
     };
     let q = state::pool_at(s, p);

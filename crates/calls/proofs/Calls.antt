@@ -1,4 +1,5 @@
 -- The machine's step, where the calls' own rules do not say it whole: creation keeps the state before it, a query changes nothing. Assumes nothing.
+use Rattle.std.specs.Prelude.{Option, Some, None}
 use Prim.Native.Nat.{ℕ}
 use mathlib.Core.Bool.{Bool, true, false}
 use mathlib.Core.List.{List, [], ◌∷◌}
@@ -11,8 +12,6 @@ use Rattle.state.specs.contracts.Answer.{the_type}
 use Rattle.numbers.specs.Pick.{pick}
 use lib.ListN.{length}
 use Rattle.state.specs.declared.State.{State}
-use Rattle.state.specs.declared.Found.{Found}
-use Rattle.state.specs.declared.Found.TheVariants.{At, Nothing}
 use Rattle.state.specs.declared.Held.{Held}
 use Rattle.state.specs.declared.Held.TheVariants.{NoSpan, NoStop, Range}
 use Rattle.state.specs.declared.Refusal.{Refusal}
@@ -48,9 +47,9 @@ still_held s u t a j NoSpan = refl
 still_held s u t a j NoStop = refl
 still_held s u t a j (Range i e) = refl
 
-still_found : (s : State) (u t : List ℕ) (a : ℕ) (f : Found) → turn (query_found s u t a f).answer s u t ≡ query_found s u t a f
-still_found s u t a Nothing = refl
-still_found s u t a (At j) = still_held s u t a j (held_in s u t a j)
+still_found : (s : State) (u t : List ℕ) (a : ℕ) (f : Option ℕ) → turn (query_found s u t a f).answer s u t ≡ query_found s u t a f
+still_found s u t a None = refl
+still_found s u t a (Some j) = still_held s u t a j (held_in s u t a j)
 
 still_either : (s : State) (u t : List ℕ) (a : ℕ) (b : Bool) → let x = pick b (refuse BadShape s u t) (query_found s u t a (lookup s a)) in turn x.answer s u t ≡ x
 still_either s u t a true = refl

@@ -1,4 +1,5 @@
 -- What a query, a release and a shrink of an address come to in a known state, by what the ledger has there. Assumes nothing.
+use Rattle.std.specs.Prelude.{Some, None}
 use Prim.Native.Nat.{ℕ, ◌-◌, ◌*◌, ◌≤◌, ◌<◌}
 use mathlib.Core.List.{List}
 use mathlib.Core.Path.{◌≡◌, sym, ap, subst, ◌∙◌}
@@ -10,7 +11,6 @@ use Rattle.numbers.proofs.Bools.{not_both}
 use Rattle.numbers.proofs.Split.{by_eq, by_le}
 use Rattle.state.specs.declared.State.{State}
 use Rattle.state.specs.declared.Span.{Span}
-use Rattle.state.specs.declared.Found.TheVariants.{At, Nothing}
 use Rattle.state.specs.declared.Held.TheVariants.{NoSpan}
 use Rattle.state.specs.declared.Refusal.TheVariants.{InvalidArgument, InvalidState}
 use Rattle.state.specs.declared.Answer.TheVariants.{Released, Shrunk, Shown, Refused}
@@ -55,10 +55,10 @@ module _ {s : State} {u t : List ℕ} {l : List Span} (k : Known s u t l) where
   answered : {x y : Turn} → x ≡ y → x.answer ≡ y.answer
   answered e = ap (λ (x : Turn). x.answer) e
 
-  found : (a j : ℕ) → lookup s a ≡ At j → HasBlock s a
+  found : (a j : ℕ) → lookup s a ≡ Some j → HasBlock s a
   found a j e = let r = found_in s a j (sym e) in (j, r.0, r.1)
 
-  none_holds : (a : ℕ) → lookup s a ≡ Nothing → HasBlock s a → ⊥
+  none_holds : (a : ℕ) → lookup s a ≡ None → HasBlock s a → ⊥
   none_holds a e h =
       let none = subst (Least 0 s.count (λ i. holds (block_at s i) a)) e (least_of s.count (λ i. holds (block_at s i) a)) in
       not_both (holds (block_at s h.0) a) h.2 (none h.0 (omega arith) h.1)
@@ -71,7 +71,7 @@ module _ {s : State} {u t : List ℕ} {l : List Span} (k : Known s u t l) where
   queried a = go (finds s u t l o len a)
     where
       go : Finds s u t l a → Queried s u t l a
-      go (nowhere e none) = unknown none (answered (query_at s u t l o len a Nothing e))
+      go (nowhere e none) = unknown none (answered (query_at s u t l o len a None e))
       go (nothing j h e y none) = unknown none (answered (query_held_lem s u t l o len a j NoSpan e y))
       go (entry j i e h p y some fits ea mem used) = known ((e - i) * s.granularity) mem (answered (query_entry s u t l o len a j i e h p y))
 
@@ -83,7 +83,7 @@ module _ {s : State} {u t : List ℕ} {l : List Span} (k : Known s u t l) where
   given_back a = by_eq a 0 (λ e. zero_address e (zero_vacant a e) (answered (release-zero s u t l o len a e))) (λ ne. go ne (finds s u t l o len a))
     where
       go : (a ≡ 0 → ⊥) → Finds s u t l a → GivenBack s u t l a
-      go ne (nowhere e none) = no_block ne (none_holds a e) none (answered (release_at s u t l o len a Nothing ne e))
+      go ne (nowhere e none) = no_block ne (none_holds a e) none (answered (release_at s u t l o len a None ne e))
       go ne (nothing j h e y none) = no_span ne (found a j e) none (answered (release_held_lem s u t l o len a j NoSpan ne e y))
       go ne (entry j i e h p y some fits ea mem used) =
           struck ne ((e - i) * s.granularity) (found a j p) mem (answered (release_entry s u t l o len a j i e ne p y mem used) ∙ free_answer a j i e h)
@@ -92,7 +92,7 @@ module _ {s : State} {u t : List ℕ} {l : List Span} (k : Known s u t l) where
   cut_down a size ns = by_eq a 0 (λ e. unknown (zero_vacant a e) (answered (shrink-zero s u t l o len a size ns e))) (λ ne. go ne (finds s u t l o len a))
     where
       go : (a ≡ 0 → ⊥) → Finds s u t l a → CutDown s u t l a size
-      go ne (nowhere e none) = unknown none (answered (shrink_at s u t l o len a size Nothing ns ne e))
+      go ne (nowhere e none) = unknown none (answered (shrink_at s u t l o len a size None ns ne e))
       go ne (nothing j h e y none) = unknown none (answered (shrink_held_lem s u t l o len a size j NoSpan ns ne e y))
       go ne (entry j i e h p y some fits ea mem used) =
           let n = units_of size s.granularity in

@@ -1,5 +1,6 @@
 -- Demand 2: an allocation goes to the first block of its pool that has a place, at its lowest; and a new block is made, or refusal 4 given, exactly if
 -- none has. Assumes nothing.
+use Rattle.std.specs.Prelude.{Option, Some, None}
 use Prim.Native.Nat.{ℕ, ◌+◌, ◌*◌, ◌<◌}
 use mathlib.Core.List.{List}
 use mathlib.Core.Logic.{inl, inr, ◌↔◌}
@@ -18,10 +19,6 @@ use Rattle.sizes.proofs.Pools.{pool_below}
 use Rattle.sizes.proofs.Sizes.{rounded_is}
 use Rattle.state.specs.declared.State.{State}
 use Rattle.state.specs.declared.Span.{Span}
-use Rattle.state.specs.declared.Found.{Found}
-use Rattle.state.specs.declared.Found.TheVariants.{At as slot_at, Nothing}
-use Rattle.state.specs.declared.Place.{Place}
-use Rattle.state.specs.declared.Place.TheVariants.{Base, Nowhere as noPlace}
 use Rattle.state.specs.declared.Hit.TheVariants.{At, Nowhere}
 use Rattle.state.specs.declared.Refusal.{Refusal}
 use Rattle.state.specs.declared.Refusal.TheVariants.{InvalidArgument, TooLarge, InvalidState, NoMapping, BadShape, Damaged}
@@ -191,10 +188,10 @@ module _ {s : State} {u t : List ℕ} {l : List Span} (r : Reached s u t l) (siz
   granted-not : (c : Answer) (y : Span) → c ≡ Granted y → c ≡ Refused NoMapping → ⊥
   granted-not c y p q = let z : ◌≡◌ {A = ℕ} 0 1 = cc in omega arith
 
-  placed-not : (c : Place) (a : ℕ) → c ≡ Base a → c ≡ noPlace → ⊥
+  placed-not : (c : Option ℕ) (a : ℕ) → c ≡ Some a → c ≡ None → ⊥
   placed-not c a p q = let z : ◌≡◌ {A = ℕ} 0 1 = cc in omega arith
 
-  slot-not : (c : Found) (a : ℕ) → c ≡ slot_at a → c ≡ Nothing → ⊥
+  slot-not : (c : Option ℕ) (a : ℕ) → c ≡ Some a → c ≡ None → ⊥
   slot-not c a p q = let z : ◌≡◌ {A = ℕ} 0 1 = cc in omega arith
 
   not_cannot : Made s pool units bytes after → CannotMake s pool bytes → ⊥

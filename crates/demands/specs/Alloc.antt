@@ -1,10 +1,8 @@
 -- Demand 2: where an allocation of n units in pool p is placed, by the table before the call; bytes is the rounded size. Assumes nothing.
-use Rattle.std.specs.Prelude.{ℕ, ◌+◌, ◌≤◌, ◌<◌, List, ◌⊎◌, ◌≡◌}
+use Rattle.std.specs.Prelude.{ℕ, ◌+◌, ◌≤◌, ◌<◌, List, ◌⊎◌, ◌≡◌, Some, None}
 use Rattle.numbers.specs.Names.{Bytes, Units, Map}
 use Rattle.numbers.specs.Units.{units_of, bytes_of}
 use Rattle.state.specs.declared.State.{State}
-use Rattle.state.specs.declared.Found.TheVariants.{At as slot_at, Nothing}
-use Rattle.state.specs.declared.Place.TheVariants.{Base, Nowhere as noPlace}
 use Rattle.state.specs.declared.Hit.TheVariants.{At, Nowhere}
 use Rattle.state.specs.declared.Refusal.TheVariants.{NoMapping}
 use Rattle.state.specs.declared.Answer.TheVariants.{Granted, Refused}
@@ -30,8 +28,8 @@ words_for s p bytes = units_of (units_of (new_size s p bytes) s.granularity) 32
 pub record Made (s : State) (p n bytes : ℕ) (x : Turn) : Type 0 where
   pub place : ℕ
   pub slot : ℕ
-  pub is_lowest_place : lowest_place s (new_size s p bytes) ≡ Base place
-  pub is_lowest_slot : lowest_slot s ≡ slot_at slot
+  pub is_lowest_place : lowest_place s (new_size s p bytes) ≡ Some place
+  pub is_lowest_slot : lowest_slot s ≡ Some slot
   pub words : words_for s p bytes ≤ s.w
   pub answer : x.answer ≡ Granted (span place (bytes_of n s.granularity))
   pub count : x.state.count ≡ s.count + 1
@@ -42,7 +40,7 @@ pub record Made (s : State) (p n bytes : ℕ) (x : Turn) : Type 0 where
 
 -- there is no such place, no free slot, or its words exceed W
 abbrev pub CannotMake : State → ℕ → Bytes → Type 0
-CannotMake s p bytes = (lowest_place s (new_size s p bytes) ≡ noPlace) ⊎ ((lowest_slot s ≡ Nothing) ⊎ (s.w < words_for s p bytes))
+CannotMake s p bytes = (lowest_place s (new_size s p bytes) ≡ None) ⊎ ((lowest_slot s ≡ None) ⊎ (s.w < words_for s p bytes))
 
 abbrev pub Goes : State → Map → ℕ → Units → Bytes → Turn → Type 0
 Goes s u p n bytes x =

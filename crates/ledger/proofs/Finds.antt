@@ -1,4 +1,5 @@
 -- In a sound state: what a lookup of an address finds, and what the calls on an address then come to. Assumes nothing.
+use Rattle.std.specs.Prelude.{Option, Some, None}
 use Prim.Native.Nat.{ℕ, ◌+◌, ◌-◌, ◌*◌, ◌≤◌, ◌<◌}
 use mathlib.Core.List.{List, [], ◌∷◌}
 use mathlib.Core.Bool.{true}
@@ -10,8 +11,6 @@ use Rattle.numbers.specs.Units.{units_of}
 use Rattle.numbers.proofs.Bools.{not_both}
 use Rattle.state.specs.declared.State.{State}
 use Rattle.state.specs.declared.Span.{Span}
-use Rattle.state.specs.declared.Found.{Found}
-use Rattle.state.specs.declared.Found.TheVariants.{At, Nothing}
 use Rattle.state.specs.declared.Held.{Held}
 use Rattle.state.specs.declared.Held.TheVariants.{NoSpan, NoStop, Range}
 use Rattle.state.specs.declared.Refusal.TheVariants.{InvalidArgument, InvalidState}
@@ -40,9 +39,9 @@ some_entry (x ∷ l) a z i = omega arith
 
 -- what stands at an address, and in the ledger
 pub data Finds (s : State) (u t : List ℕ) (l : List Span) (a : ℕ) : Type 0 where
-  nowhere : lookup s a ≡ Nothing → ((z : ℕ) → In a z l → ⊥) → Finds s u t l a
-  nothing : (j : ℕ) → j < s.count → lookup s a ≡ At j → held_in s u t a j ≡ NoSpan → ((z : ℕ) → In a z l → ⊥) → Finds s u t l a
-  entry : (j i e : ℕ) → j < s.count → lookup s a ≡ At j → held_in s u t a j ≡ Range i e → i < e → e ≤ (block_at s j).area
+  nowhere : lookup s a ≡ None → ((z : ℕ) → In a z l → ⊥) → Finds s u t l a
+  nothing : (j : ℕ) → j < s.count → lookup s a ≡ Some j → held_in s u t a j ≡ NoSpan → ((z : ℕ) → In a z l → ⊥) → Finds s u t l a
+  entry : (j i e : ℕ) → j < s.count → lookup s a ≡ Some j → held_in s u t a j ≡ Range i e → i < e → e ≤ (block_at s j).area
       → a ≡ (block_at s j).base + i * s.granularity → In a ((e - i) * s.granularity) l → e - i ≤ (block_at s j).used → Finds s u t l a
 
 module _ (s : State) (u t : List ℕ) (l : List Span) (o : Sound s u t l) (len : length s.blocks ≡ 64) where
@@ -55,7 +54,7 @@ module _ (s : State) (u t : List ℕ) (l : List Span) (o : Sound s u t l) (len :
   pub unit_is : (j : ℕ) → j < s.count → unit_of s (block_at s j) ≡ s.granularity
   unit_is j h = unit_g s (length u) (length t) shaped (block_at s j).pool (pool_3 s (length u) (length t) shaped j h)
 
-  told_in : (a j : ℕ) → At j ≡ lookup s a → Told s.granularity s.w s.slots s.count s.blocks u t stands l o.agrees a j (held_in s u t a j)
+  told_in : (a j : ℕ) → Some j ≡ lookup s a → Told s.granularity s.w s.slots s.count s.blocks u t stands l o.agrees a j (held_in s u t a j)
   told_in a j e =
       let r = found_in s a j e in
       let q : within (block_at s j).base (block_at s j).size a ≡ true = r.1 in
@@ -65,17 +64,17 @@ module _ (s : State) (u t : List ℕ) (l : List Span) (o : Sound s u t l) (len :
   pub finds : (a : ℕ) → Finds s u t l a
   finds a = go (lookup s a) refl
     where
-      held : (j : ℕ) → lookup s a ≡ At j → (x : Held) → held_in s u t a j ≡ x → Told s.granularity s.w s.slots s.count s.blocks u t stands l o.agrees a j x → Finds s u t l a
+      held : (j : ℕ) → lookup s a ≡ Some j → (x : Held) → held_in s u t a j ≡ x → Told s.granularity s.w s.slots s.count s.blocks u t stands l o.agrees a j x → Finds s u t l a
       held j e NoSpan z q = nothing j (found_in s a j (sym e)).0 e z q
       held j e NoStop z q = absurd q
       held j e (Range i k) z q = entry j i k (found_in s a j (sym e)).0 e z q.0 q.1 q.2 q.3 q.4
 
-      go : (x : Found) → lookup s a ≡ x → Finds s u t l a
-      go Nothing e = nowhere e (λ z mem.
+      go : (x : Option ℕ) → lookup s a ≡ x → Finds s u t l a
+      go None e = nowhere e (λ z mem.
           let y = seen s.granularity s.w s.slots s.count s.blocks u t stands l o.agrees a z mem in
           let none = subst (Least 0 s.count (λ i. holds (block_at s i) a)) e (least_of s.count (λ i. holds (block_at s i) a)) in
           not_both (holds (block_at s y.block) a) (seen_in s.granularity s.w s.slots s.count s.blocks u t stands l o.agrees a z y) (none y.block (omega arith) y.known))
-      go (At j) e = held j e (held_in s u t a j) refl (told_in a j (sym e))
+      go (Some j) e = held j e (held_in s u t a j) refl (told_in a j (sym e))
 
   -- a span that stands there is an entry
   pub held_entry : (a j i e : ℕ) → Holds s u t a j i e → (j < s.count) × Told s.granularity s.w s.slots s.count s.blocks u t stands l o.agrees a j (Range i e)
@@ -91,14 +90,14 @@ module _ (s : State) (u t : List ℕ) (l : List Span) (o : Sound s u t l) (len :
       omega (arith, y.address, (shaped.sound y.block y.known).above, shaped.head.arena_low)
 
   -- ---- query
-  pub query_at : (a : ℕ) (x : Found) → lookup s a ≡ x → query_turn s u t a ≡ query_found s u t a x
+  pub query_at : (a : ℕ) (x : Option ℕ) → lookup s a ≡ x → query_turn s u t a ≡ query_found s u t a x
   unfolding query_turn
   query_at a x e = rw (o.shape, e)
 
-  pub query_held_lem : (a j : ℕ) (x : Held) → lookup s a ≡ At j → held_in s u t a j ≡ x → query_turn s u t a ≡ query_held s u t a j x
-  query_held_lem a j x e z = query_at a (At j) e ∙ ap (query_held s u t a j) z
+  pub query_held_lem : (a j : ℕ) (x : Held) → lookup s a ≡ Some j → held_in s u t a j ≡ x → query_turn s u t a ≡ query_held s u t a j x
+  query_held_lem a j x e z = query_at a (Some j) e ∙ ap (query_held s u t a j) z
 
-  pub query_entry : (a j i e : ℕ) → j < s.count → lookup s a ≡ At j → held_in s u t a j ≡ Range i e → query_turn s u t a ≡ turn (Shown (span a ((e - i) * s.granularity))) s u t
+  pub query_entry : (a j i e : ℕ) → j < s.count → lookup s a ≡ Some j → held_in s u t a j ≡ Range i e → query_turn s u t a ≡ turn (Shown (span a ((e - i) * s.granularity))) s u t
   query_entry a j i e h p q = query_held_lem a j (Range i e) p q ∙ ap (λ (g : ℕ). turn (Shown (span a ((e - i) * g))) s u t) (unit_is j h)
 
   -- ---- release
@@ -106,14 +105,14 @@ module _ (s : State) (u t : List ℕ) (l : List Span) (o : Sound s u t l) (len :
   unfolding release_turn
   release-zero a e = rw (o.shape, eq-eqb a 0 e)
 
-  pub release_at : (a : ℕ) (x : Found) → (a ≡ 0 → ⊥) → lookup s a ≡ x → release_turn s u t a ≡ release_found s u t a x
+  pub release_at : (a : ℕ) (x : Option ℕ) → (a ≡ 0 → ⊥) → lookup s a ≡ x → release_turn s u t a ≡ release_found s u t a x
   unfolding release_turn
   release_at a x ne e = rw (o.shape, ne_eqb a 0 ne, e)
 
-  pub release_held_lem : (a j : ℕ) (x : Held) → (a ≡ 0 → ⊥) → lookup s a ≡ At j → held_in s u t a j ≡ x → release_turn s u t a ≡ release_held s u t a j x
-  release_held_lem a j x ne e z = release_at a (At j) ne e ∙ ap (release_held s u t a j) z
+  pub release_held_lem : (a j : ℕ) (x : Held) → (a ≡ 0 → ⊥) → lookup s a ≡ Some j → held_in s u t a j ≡ x → release_turn s u t a ≡ release_held s u t a j x
+  release_held_lem a j x ne e z = release_at a (Some j) ne e ∙ ap (release_held s u t a j) z
 
-  pub release_entry : (a j i e : ℕ) → (a ≡ 0 → ⊥) → lookup s a ≡ At j → held_in s u t a j ≡ Range i e → In a ((e - i) * s.granularity) l → e - i ≤ (block_at s j).used
+  pub release_entry : (a j i e : ℕ) → (a ≡ 0 → ⊥) → lookup s a ≡ Some j → held_in s u t a j ≡ Range i e → In a ((e - i) * s.granularity) l → e - i ≤ (block_at s j).used
       → release_turn s u t a ≡ release_units s u t a j i e
   release_entry a j i e ne p q mem used =
       release_held_lem a j (Range i e) ne p q
@@ -128,15 +127,15 @@ module _ (s : State) (u t : List ℕ) (l : List Span) (o : Sound s u t l) (len :
   unfolding shrink_turn
   shrink-zero a size ns e = rw (ne_eqb size 0 ns, o.shape, eq-eqb a 0 e)
 
-  pub shrink_at : (a size : ℕ) (x : Found) → (size ≡ 0 → ⊥) → (a ≡ 0 → ⊥) → lookup s a ≡ x → shrink_turn s u t a size ≡ shrink_found s u t a size x
+  pub shrink_at : (a size : ℕ) (x : Option ℕ) → (size ≡ 0 → ⊥) → (a ≡ 0 → ⊥) → lookup s a ≡ x → shrink_turn s u t a size ≡ shrink_found s u t a size x
   unfolding shrink_turn
   shrink_at a size x ns ne e = rw (ne_eqb size 0 ns, o.shape, ne_eqb a 0 ne, e)
 
-  pub shrink_held_lem : (a size j : ℕ) (x : Held) → (size ≡ 0 → ⊥) → (a ≡ 0 → ⊥) → lookup s a ≡ At j → held_in s u t a j ≡ x → shrink_turn s u t a size ≡ shrink_held s u t a size j x
-  shrink_held_lem a size j x ns ne e z = shrink_at a size (At j) ns ne e ∙ ap (shrink_held s u t a size j) z
+  pub shrink_held_lem : (a size j : ℕ) (x : Held) → (size ≡ 0 → ⊥) → (a ≡ 0 → ⊥) → lookup s a ≡ Some j → held_in s u t a j ≡ x → shrink_turn s u t a size ≡ shrink_held s u t a size j x
+  shrink_held_lem a size j x ns ne e z = shrink_at a size (Some j) ns ne e ∙ ap (shrink_held s u t a size j) z
 
   -- the units that a size takes, of a span that stands there
-  pub shrink_units_lem : (a size j i e : ℕ) → (size ≡ 0 → ⊥) → (a ≡ 0 → ⊥) → j < s.count → lookup s a ≡ At j → held_in s u t a j ≡ Range i e → e - i ≤ (block_at s j).used
+  pub shrink_units_lem : (a size j i e : ℕ) → (size ≡ 0 → ⊥) → (a ≡ 0 → ⊥) → j < s.count → lookup s a ≡ Some j → held_in s u t a j ≡ Range i e → e - i ≤ (block_at s j).used
       → shrink_turn s u t a size ≡ shrink_units s u t a j i e (units_of size s.granularity)
   shrink_units_lem a size j i e ns ne h p q used =
       shrink_held_lem a size j (Range i e) ns ne p q

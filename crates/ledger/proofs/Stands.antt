@@ -1,4 +1,5 @@
 -- What stands at a unit by its bits (01, Span start) is the piece that starts there. So the maps fix the pieces. Assumes nothing.
+use Rattle.std.specs.Prelude.{Some}
 use Prim.Native.Nat.{ℕ, ◌+◌, ◌-◌, ◌≤◌, ◌<◌}
 use mathlib.Core.Bool.{Bool, true, false, ◌||◌}
 use mathlib.Core.List.{List}
@@ -10,7 +11,6 @@ use borrow.Author.Tests.{eq-eqb, ne_eqb, eqb-true}
 use Rattle.numbers.proofs.Bools.{not_both, and_left, and_right, or_cases, or_left, or_right}
 use Rattle.numbers.proofs.Split.{by_eq}
 use Rattle.bits.specs.Bits.{bit}
-use Rattle.state.specs.declared.Found.TheVariants.{At}
 use Rattle.state.specs.declared.Held.{Held}
 use Rattle.state.specs.declared.Held.TheVariants.{NoSpan, NoStop, Range}
 use Rattle.state.specs.Find.{least_from}
@@ -58,10 +58,10 @@ module _ (l : List Piece) (area : ℕ) (u t : List ℕ) (p : Paints l area u t) 
       (r.1, subst (λ (s : ℕ). InPieces s r.1 l) (begins i r.0 r.1 y r.2 r.3 r.4) r.2)
 
   -- ---- and ends with the next stop bit
-  stop_at : (i n : ℕ) → InPieces i n l → least_from i (area - i) (λ k. eqb (bit t k) 1) ≡ At (i + n - 1)
+  stop_at : (i n : ℕ) → InPieces i n l → least_from i (area - i) (λ k. eqb (bit t k) 1) ≡ Some (i + n - 1)
   stop_at i n m =
       let f = in_inside l area i n p.inside m in
-      least_unique i (i + (area - i)) (λ k. eqb (bit t k) 1) (least_from i (area - i) (λ k. eqb (bit t k) 1)) (At (i + n - 1))
+      least_unique i (i + (area - i)) (λ k. eqb (bit t k) 1) (least_from i (area - i) (λ k. eqb (bit t k) 1)) (Some (i + n - 1))
       (least_is i (area - i) (λ k. eqb (bit t k) 1))
       (record {
         low = omega arith;

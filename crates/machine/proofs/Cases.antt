@@ -1,4 +1,5 @@
 -- What the turn of each call can be, with what is known in each case, a refusal's condition too: a property that holds in every case holds of the turn. Assumes nothing.
+use Rattle.std.specs.Prelude.{Option, Some, None}
 use Prim.Native.Nat.{ℕ, ◌-◌, ◌/◌, ◌≤◌, ◌<◌}
 use mathlib.Core.Bool.{Bool, true, false, not, ◌||◌}
 use mathlib.Core.List.{List}
@@ -18,12 +19,8 @@ use Rattle.sizes.specs.declared.SizeError.TheVariants as size_error
 use Rattle.sizes.specs.Sizes.{rounded, ideal_size}
 use Rattle.sizes.proofs.Sizes.{rounded_is}
 use Rattle.state.specs.declared.State.{State}
-use Rattle.state.specs.declared.Found.{Found}
-use Rattle.state.specs.declared.Found.TheVariants.{At as slot_at, Nothing}
 use Rattle.state.specs.declared.Held.{Held}
 use Rattle.state.specs.declared.Held.TheVariants.{NoSpan, NoStop as noStop, Range}
-use Rattle.state.specs.declared.Place.{Place}
-use Rattle.state.specs.declared.Place.TheVariants.{Base, Nowhere as noPlace}
 use Rattle.state.specs.declared.Hit.{Hit}
 use Rattle.state.specs.declared.Hit.TheVariants.{At, Nowhere}
 use Rattle.state.specs.declared.Refusal.{Refusal}
@@ -52,7 +49,7 @@ use Rattle.machine.proofs.Searched.{search_other, search_slot, search_place, sea
 -- block j holds the address, and a span from unit i up to e stands there
 pub record Holds (s : State) (u t : List ℕ) (a j i e : ℕ) : Type 0 where
   pub good : Good s u t
-  pub found : slot_at j ≡ lookup s a
+  pub found : Some j ≡ lookup s a
   pub held : held_in s u t a j ≡ Range i e
 
 -- the call released it
@@ -84,14 +81,14 @@ module _ (s : State) (u : List ℕ) (bytes : ℕ) where
 
 -- a new block for it, of size bytes
 pub record Places (r : State) (p bytes at slot : ℕ) : Type 0 where
-  pub place : Base at ≡ lowest_place r (new_size r p bytes)
-  pub free : slot_at slot ≡ lowest_slot r
+  pub place : Some at ≡ lowest_place r (new_size r p bytes)
+  pub free : Some slot ≡ lowest_slot r
   pub words : units_of (units_of (new_size r p bytes) (pool_at r p).granularity) 32 ≤ r.w
 
 -- why it can't be made
 abbrev pub Short : State → ℕ → ℕ → Type 0
 Short r p bytes =
-    (lowest_place r (new_size r p bytes) ≡ noPlace) ⊎ ((lowest_slot r ≡ Nothing) ⊎ (r.w < units_of (units_of (new_size r p bytes) (pool_at r p).granularity) 32))
+    (lowest_place r (new_size r p bytes) ≡ None) ⊎ ((lowest_slot r ≡ None) ⊎ (r.w < units_of (units_of (new_size r p bytes) (pool_at r p).granularity) 32))
 
 -- which is refusal 4's condition, of the table before the search
 module _ (s : State) (u t : List ℕ) (size bytes : ℕ) (k : Seeks s u t size bytes) where
@@ -107,9 +104,9 @@ module _ (s : State) (u t : List ℕ) (size bytes : ℕ) (k : Seeks s u t size b
   size_same : new_size (search_for s u bytes).state p bytes ≡ size_for s u t bytes
   size_same = ap (λ (b : ℕ). ideal_size b bytes) (search_newest s u p n p)
 
-  no_room : (f : Found) → Least 0 (s.length / 65536) (place_free s (size_for s u t bytes)) f → placed s f ≡ noPlace → NoRoom s u t (size_for s u t bytes)
-  no_room (slot_at i) q e = absurd (let no : ◌≡◌ {A = ℕ} 0 1 = cc in omega arith)
-  no_room Nothing q e = λ i l. q i (omega arith) l
+  no_room : (f : Option ℕ) → Least 0 (s.length / 65536) (place_free s (size_for s u t bytes)) f → placed s f ≡ None → NoRoom s u t (size_for s u t bytes)
+  no_room (Some i) q e = absurd (let no : ◌≡◌ {A = ℕ} 0 1 = cc in omega arith)
+  no_room None q e = λ i l. q i (omega arith) l
 
   short : Short (search_for s u bytes).state p bytes → NoRoom s u t (size_for s u t bytes) ⊎ (NoSlot s u t ⊎ PastSlot s u t bytes)
   short (inl e) =
@@ -168,20 +165,20 @@ module _ (P : Turn → Type 0) (s : State) (u t : List ℕ) where
 
   module _ (a : ℕ) where
     -- ---- an address in no block, at no span start, at a span with no end, or at a span; F and H are what the call makes of the two findings
-    module _ (F : Found → Turn) (H : ℕ → Held → Turn) (good : Good s u t)
-        (nowhere : InNone s u t a → P (F Nothing))
+    module _ (F : Option ℕ → Turn) (H : ℕ → Held → Turn) (good : Good s u t)
+        (nowhere : InNone s u t a → P (F None))
         (nothing : (j : ℕ) → InBlock s u t a j → (IsStart s u t a j → ⊥) → P (H j NoSpan))
         (endless : (j : ℕ) → InBlock s u t a j → IsStart s u t a j → NoStop s u t a j → P (H j noStop))
         (spans : (j i e : ℕ) → Holds s u t a j i e → InBlock s u t a j → IsStart s u t a j → HasUnits s u t a j (e - i) → P (H j (Range i e)))
-        (in_block : (j : ℕ) → P (H j (held_in s u t a j)) → P (F (slot_at j))) where
-      held : (j : ℕ) → slot_at j ≡ lookup s a → InBlock s u t a j → (h : Held) → held_in s u t a j ≡ h → Seen s u t a j h → P (H j h)
+        (in_block : (j : ℕ) → P (H j (held_in s u t a j)) → P (F (Some j))) where
+      held : (j : ℕ) → Some j ≡ lookup s a → InBlock s u t a j → (h : Held) → held_in s u t a j ≡ h → Seen s u t a j h → P (H j h)
       held j f here NoSpan z q = nothing j here q
       held j f here noStop z q = endless j here q.0 q.1
       held j f here (Range i e) z q = spans j i e (record { good = good; found = f; held = z }) here q.2 q.3
 
-      found : (f : Found) → f ≡ lookup s a → Looks s u t a f → P (F f)
-      found Nothing z q = nowhere q
-      found (slot_at j) z q = in_block j (held j z q (held_in s u t a j) refl (seen s u t a j))
+      found : (f : Option ℕ) → f ≡ lookup s a → Looks s u t a f → P (F f)
+      found None z q = nowhere q
+      found (Some j) z q = in_block j (held j z q (held_in s u t a j) refl (seen s u t a j))
 
       address_cases : P (F (lookup s a))
       address_cases = found (lookup s a) refl (looks s u t a)
@@ -295,13 +292,13 @@ module _ (P : Turn → Type 0) (s : State) (u t : List ℕ) where
     abbrev taken : ℕ
     taken = units_of (units_of b (pool_at r (pool_for s z)).granularity) 32
 
-    place : Seeks s u t size z → (search_for s u z).hit ≡ Nowhere → (x : Place) (f : Found) → lowest_place r b ≡ x → lowest_slot r ≡ f
+    place : Seeks s u t size z → (search_for s u z).hit ≡ Nowhere → (x : Option ℕ) (f : Option ℕ) → lowest_place r b ≡ x → lowest_slot r ≡ f
         → P (alloc_placed r u t (pool_for s z) (units_for s z) b x f)
-    place k miss (Base at) (slot_at slot) ex ef =
+    place k miss (Some at) (Some slot) ex ef =
         picked P (leb taken r.w) (alloc_made r u t (pool_for s z) (units_for s z) b at slot) (refuse NoMapping r u t)
         (λ e. make z at slot k miss (record { place = sym ex; free = sym ef; words = leb-true taken r.w e })) (λ e. full z k miss (inr (inr (leb-false taken r.w e))))
-    place k miss (Base at) Nothing ex ef = full z k miss (inr (inl ef))
-    place k miss noPlace f ex ef = full z k miss (inl ex)
+    place k miss (Some at) None ex ef = full z k miss (inr (inl ef))
+    place k miss None f ex ef = full z k miss (inl ex)
 
     searched : Seeks s u t size z → (h : Hit) → (search_for s u z).hit ≡ h → P (alloc_searched r u t (pool_for s z) (units_for s z) z h)
     searched k (At j i) e = hit z j i k e

@@ -1,4 +1,5 @@
 -- What stands at an address, in the words of the table of refusals, and in the machine's: the one gives the other. Assumes nothing.
+use Rattle.std.specs.Prelude.{Option, Some, None}
 use Prim.Native.Nat.{ℕ, ◌+◌, ◌-◌, ◌%◌, ◌<◌}
 use mathlib.Core.Bool.{Bool, true, false}
 use mathlib.Core.List.{List}
@@ -11,8 +12,6 @@ use Rattle.numbers.proofs.Bools.{not_both}
 use Rattle.numbers.proofs.Split.{same_of_not-lt}
 use Rattle.bits.specs.Bits.{bit}
 use Rattle.state.specs.declared.State.{State}
-use Rattle.state.specs.declared.Found.{Found}
-use Rattle.state.specs.declared.Found.TheVariants.{At, Nothing}
 use Rattle.state.specs.declared.Held.{Held}
 use Rattle.state.specs.declared.Held.TheVariants.{NoSpan, NoStop as noStop, Range}
 use Rattle.state.specs.Table.{block_at}
@@ -24,23 +23,23 @@ use Rattle.machine.specs.When.{InNone, InBlock, unit_at, used_of, stop_of, IsSta
 
 module _ (s : State) (u t : List ℕ) where
   -- ---- the block
-  abbrev pub Looks : ℕ → Found → Type 0
-  Looks a Nothing = InNone s u t a
-  Looks a (At j) = InBlock s u t a j
+  abbrev pub Looks : ℕ → Option ℕ → Type 0
+  Looks a None = InNone s u t a
+  Looks a (Some j) = InBlock s u t a j
 
   pub looks : (a : ℕ) → Looks a (lookup s a)
   looks a = go (lookup s a) (least_of s.count (λ i. holds (block_at s i) a))
     where
-      go : (r : Found) → Least 0 s.count (λ i. holds (block_at s i) a) r → Looks a r
-      go (At j) q = (q.high, q.passes)
-      go Nothing q = λ j l. q j (omega arith) l
+      go : (r : Option ℕ) → Least 0 s.count (λ i. holds (block_at s i) a) r → Looks a r
+      go (Some j) q = (q.high, q.passes)
+      go None q = λ j l. q j (omega arith) l
 
-  pub at_none : (a : ℕ) → InNone s u t a → lookup s a ≡ Nothing
+  pub at_none : (a : ℕ) → InNone s u t a → lookup s a ≡ None
   at_none a none = go (lookup s a) (looks a)
     where
-      go : (r : Found) → Looks a r → r ≡ Nothing
-      go (At j) q = absurd (not_both (holds (block_at s j) a) q.1 (none j q.0))
-      go Nothing q = refl
+      go : (r : Option ℕ) → Looks a r → r ≡ None
+      go (Some j) q = absurd (not_both (holds (block_at s j) a) q.1 (none j q.0))
+      go None q = refl
 
   -- ---- the span
   abbrev pub Seen : ℕ → ℕ → Held → Type 0
@@ -61,8 +60,8 @@ module _ (s : State) (u t : List ℕ) where
     abbrev stops : ℕ → Bool
     stops k = eqb (bit (stop_of s u t j) k) 1
 
-    ends : IsStart s u t a j → (r : Found) → Least at (at + (area - at)) stops r → Seen a j (up_to at r)
-    ends st (At e) q = (
+    ends : IsStart s u t a j → (r : Option ℕ) → Least at (at + (area - at)) stops r → Seen a j (up_to at r)
+    ends st (Some e) q = (
       refl,
       omega (arith, q.low),
       st,
@@ -73,7 +72,7 @@ module _ (s : State) (u t : List ℕ) where
         λ k l m b. not_both (stops k) (eq-eqb (bit (stop_of s u t j) k) 1 b) (q.before k l (omega (arith, q.low))),
       ),
     )
-    ends st Nothing q = (st, λ k l m b. not_both (stops k) (eq-eqb (bit (stop_of s u t j) k) 1 b) (q k l (omega arith)))
+    ends st None q = (st, λ k l m b. not_both (stops k) (eq-eqb (bit (stop_of s u t j) k) 1 b) (q k l (omega arith)))
 
     started : offset ≡ 0 → (c : Bool) → starts (used_of s u t j) (stop_of s u t j) at ≡ c → Seen a j (pick c (up_to at (least_from at (area - at) stops)) NoSpan)
     started z true e = ends (z, e) (least_from at (area - at) stops) (least_is at (area - at) stops)

@@ -1,4 +1,5 @@
 -- What a search of a pool leaves: the record but for the blocks' windows, largest fields and dirty flags. So each block lies where it lay, and the lowest slot, the lowest place and the newest block's size are found as before. Assumes nothing.
+use Rattle.std.specs.Prelude.{Option, Some, None}
 use Prim.Native.Nat.{ℕ, zero, suc, ◌+◌, ◌/◌}
 use mathlib.Core.Bool.{Bool, not, ◌&&◌}
 use mathlib.Core.List.{List}
@@ -16,8 +17,6 @@ use Rattle.block.specs.declared.Looked.TheVariants.{Found as found, Missed as mi
 use Rattle.block.specs.Search.{look_into}
 use Rattle.block.proofs.LiesAs.{LiesAs, lies_refl, lies_trans, missed_lies}
 use Rattle.state.specs.declared.State.{State}
-use Rattle.state.specs.declared.Found.{Found}
-use Rattle.state.specs.declared.Found.TheVariants.{At, Nothing}
 use Rattle.state.specs.declared.Searched.{Searched}
 use Rattle.state.specs.Table.{zero_block, block_at, all}
 use Rattle.state.specs.Shape.{in_pool}
@@ -60,12 +59,12 @@ from_left u p n i (suc k) s =
 least_same : (k n : ℕ) (f g : ℕ → Bool) → ((i : ℕ) → f i ≡ g i) → least_from k n f ≡ least_from k n g
 unfolding least_from
 least_same k zero f g h = refl
-least_same k (suc n) f g h = ap₂ (λ (b : Bool) (r : Found). pick b (At k) r) (h k) (least_same (suc k) n f g h)
+least_same k (suc n) f g h = ap₂ (λ (b : Bool) (r : Option ℕ). pick b (Some k) r) (h k) (least_same (suc k) n f g h)
 
 latest_same : (n : ℕ) (f g : ℕ → Bool) → ((i : ℕ) → f i ≡ g i) → latest n f ≡ latest n g
 unfolding latest
 latest_same zero f g h = refl
-latest_same (suc n) f g h = ap₂ (λ (b : Bool) (r : Found). pick b (At n) r) (h n) (latest_same n f g h)
+latest_same (suc n) f g h = ap₂ (λ (b : Bool) (r : Option ℕ). pick b (Some n) r) (h n) (latest_same n f g h)
 
 all_same : (n : ℕ) (f g : ℕ → Bool) → ((i : ℕ) → f i ≡ g i) → all n f ≡ all n g
 unfolding all
@@ -85,9 +84,9 @@ module _ (s : State) (bs : List Block) where
     clear_alike : (at size i : ℕ) → clear (block_at other i) at size ≡ clear (block_at s i) at size
     clear_alike at size i = ap₂ (λ (b n : ℕ). not (ltb b (at + size) && ltb at (b + n))) (lie i).base (lie i).size
 
-    placed_alike : (x : Found) → placed other x ≡ placed s x
-    placed_alike (At k) = refl
-    placed_alike Nothing = refl
+    placed_alike : (x : Option ℕ) → placed other x ≡ placed s x
+    placed_alike (Some k) = refl
+    placed_alike None = refl
 
     place_alike : (size : ℕ) → lowest_place other size ≡ lowest_place s size
     place_alike size =
@@ -96,9 +95,9 @@ module _ (s : State) (bs : List Block) where
         (λ k. ap (λ (b : Bool). leb (place_at s k + size) (s.arena + s.length) && b)
         (all_same s.count (λ i. clear (block_at other i) (place_at s k) size) (λ i. clear (block_at s i) (place_at s k) size) (clear_alike (place_at s k) size))))
 
-    size_alike : (x : Found) → size_or other x ≡ size_or s x
-    size_alike (At i) = (lie i).size
-    size_alike Nothing = refl
+    size_alike : (x : Option ℕ) → size_or other x ≡ size_or s x
+    size_alike (Some i) = (lie i).size
+    size_alike None = refl
 
     newest_alike : (p : ℕ) → newest_size other p ≡ newest_size s p
     newest_alike p =

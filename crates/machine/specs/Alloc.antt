@@ -1,5 +1,5 @@
 -- Document 01, Size, Pool, Search, New block and Marking: the call alloc. Assumes nothing.
-use Rattle.std.specs.Prelude.{ℕ, zero, suc, ◌+◌, ◌-◌, leb, length, Result, Ok, Err}
+use Rattle.std.specs.Prelude.{ℕ, zero, suc, ◌+◌, ◌-◌, leb, length, Result, Ok, Err, Option, Some, None}
 use Rattle.numbers.specs.Names.{Address, Bytes, Units, Age, Map}
 use Rattle.numbers.specs.Pick.{pick}
 use Rattle.numbers.specs.Units.{units_of, bytes_of}
@@ -11,10 +11,6 @@ use Rattle.sizes.specs.declared.SizeError.{SizeError}
 use Rattle.sizes.specs.Pools.{pool_of}
 use Rattle.sizes.specs.Sizes.{rounded, ideal_size}
 use Rattle.state.specs.declared.State.{State}
-use Rattle.state.specs.declared.Found.{Found}
-use Rattle.state.specs.declared.Found.TheVariants.{At as slot_at, Nothing}
-use Rattle.state.specs.declared.Place.{Place}
-use Rattle.state.specs.declared.Place.TheVariants.{Base, Nowhere as noPlace}
 use Rattle.state.specs.declared.Hit.{Hit}
 use Rattle.state.specs.declared.Hit.TheVariants.{At, Nowhere}
 use Rattle.state.specs.declared.Searched.{Searched}
@@ -80,11 +76,11 @@ alloc_made s u t p n size at slot =
     alloc_marked (inserted s (fresh at size p slot (units_of size (pool_at s p).granularity) n)) (clear_slot s.w slot u) (clear_slot s.w slot t) s.count 0 n
 
 -- refusal 4 exactly if there is no place, no free slot, or the block's words exceed W
-abbrev pub alloc_placed : State → Map → Map → ℕ → Units → Bytes → Place → Found → Turn
-alloc_placed s u t p n size (Base at) (slot_at slot) =
+abbrev pub alloc_placed : State → Map → Map → ℕ → Units → Bytes → Option ℕ → Option ℕ → Turn
+alloc_placed s u t p n size (Some at) (Some slot) =
     pick (leb (words_of s p size) s.w) (alloc_made s u t p n size at slot) (refuse NoMapping s u t)
-alloc_placed s u t p n size (Base at) Nothing = refuse NoMapping s u t
-alloc_placed s u t p n size noPlace slot = refuse NoMapping s u t
+alloc_placed s u t p n size (Some at) None = refuse NoMapping s u t
+alloc_placed s u t p n size None slot = refuse NoMapping s u t
 
 -- a block of size bytes
 abbrev pub alloc_new : State → Map → Map → ℕ → Units → Bytes → Turn

@@ -1,13 +1,11 @@
 -- Document 01, Release: the call release. Assumes nothing.
-use Rattle.std.specs.Prelude.{◌-◌, not, ◌||◌, ltb, eqb, length}
+use Rattle.std.specs.Prelude.{◌-◌, not, ◌||◌, ltb, eqb, length, ℕ, Option, Some, None}
 use Rattle.numbers.specs.Names.{Address, Units, Age, Map}
 use Rattle.numbers.specs.Pick.{pick}
 use Rattle.numbers.specs.Units.{bytes_of}
 use Rattle.block.specs.declared.Block.{Block}
 use Rattle.block.specs.Marking.{mark_released}
 use Rattle.state.specs.declared.State.{State}
-use Rattle.state.specs.declared.Found.{Found}
-use Rattle.state.specs.declared.Found.TheVariants.{At, Nothing}
 use Rattle.state.specs.declared.Held.{Held}
 use Rattle.state.specs.declared.Held.TheVariants.{NoSpan, NoStop, Range}
 use Rattle.state.specs.declared.Refusal.TheVariants.{InvalidArgument, InvalidState, BadShape, Damaged}
@@ -51,9 +49,9 @@ release_held s u t a j (Range from to) =
     pick (ltb (block_at s j).used (to - from) || eqb s.live 0) (refuse Damaged s u t) (release_units s u t a j from to)
 
 -- if no block holds the address, the call ends with refusal 3
-abbrev pub release_found : State → Map → Map → Address → Found → Turn
-release_found s u t a Nothing = refuse InvalidState s u t
-release_found s u t a (At j) = release_held s u t a j (held_in s u t a j)
+abbrev pub release_found : State → Map → Map → Address → Option ℕ → Turn
+release_found s u t a None = refuse InvalidState s u t
+release_found s u t a (Some j) = release_held s u t a j (held_in s u t a j)
 
 -- release of address 0 is refusal 1
 unfoldable pub release_turn : State → Map → Map → Address → Turn

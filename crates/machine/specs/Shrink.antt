@@ -1,12 +1,10 @@
 -- Document 01, Shrink: the call shrink. Assumes nothing.
-use Rattle.std.specs.Prelude.{◌+◌, ◌-◌, ltb, eqb, length}
+use Rattle.std.specs.Prelude.{◌+◌, ◌-◌, ltb, eqb, length, ℕ, Option, Some, None}
 use Rattle.numbers.specs.Names.{Address, Bytes, Units, Age, Map}
 use Rattle.numbers.specs.Pick.{pick}
 use Rattle.numbers.specs.Units.{units_of, bytes_of}
 use Rattle.block.specs.Marking.{mark_shrunk}
 use Rattle.state.specs.declared.State.{State}
-use Rattle.state.specs.declared.Found.{Found}
-use Rattle.state.specs.declared.Found.TheVariants.{At, Nothing}
 use Rattle.state.specs.declared.Held.{Held}
 use Rattle.state.specs.declared.Held.TheVariants.{NoSpan, NoStop, Range}
 use Rattle.state.specs.declared.Refusal.TheVariants.{InvalidArgument, InvalidState, BadShape, Damaged}
@@ -39,9 +37,9 @@ shrink_held s u t a size j (Range from to) =
     pick (ltb (block_at s j).used (to - from)) (refuse Damaged s u t) (shrink_units s u t a j from to (units_of size (unit_of s (block_at s j))))
 
 -- if no block holds the address, the call ends with refusal 1
-abbrev pub shrink_found : State → Map → Map → Address → Bytes → Found → Turn
-shrink_found s u t a size Nothing = refuse InvalidArgument s u t
-shrink_found s u t a size (At j) = shrink_held s u t a size j (held_in s u t a j)
+abbrev pub shrink_found : State → Map → Map → Address → Bytes → Option ℕ → Turn
+shrink_found s u t a size None = refuse InvalidArgument s u t
+shrink_found s u t a size (Some j) = shrink_held s u t a size j (held_in s u t a j)
 
 -- size 0 is a release
 unfoldable pub shrink_turn : State → Map → Map → Address → Bytes → Turn

@@ -1,5 +1,5 @@
 -- Document 01, Span start: whether a span starts at an address, and where it ends. And the call query. Assumes nothing.
-use Rattle.std.specs.Prelude.{ℕ, ◌+◌, ◌-◌, ◌/◌, ◌%◌, Bool, ◌&&◌, ◌||◌, eqb, length}
+use Rattle.std.specs.Prelude.{ℕ, ◌+◌, ◌-◌, ◌/◌, ◌%◌, Bool, ◌&&◌, ◌||◌, eqb, length, Option, Some, None}
 use Rattle.numbers.specs.Names.{Address, Bytes, Units, Age, Map}
 use Rattle.numbers.specs.Pick.{pick}
 use Rattle.numbers.specs.Units.{bytes_of}
@@ -7,8 +7,6 @@ use Rattle.bits.specs.Bits.{bit}
 use Rattle.slots.specs.Slots.{slot_of}
 use Rattle.block.specs.declared.Block.{Block}
 use Rattle.state.specs.declared.State.{State}
-use Rattle.state.specs.declared.Found.{Found}
-use Rattle.state.specs.declared.Found.TheVariants.{At, Nothing}
 use Rattle.state.specs.declared.Held.{Held}
 use Rattle.state.specs.declared.Held.TheVariants.{NoSpan, NoStop, Range}
 use Rattle.state.specs.declared.Refusal.TheVariants.{InvalidArgument, BadShape, Damaged}
@@ -25,9 +23,9 @@ abbrev pub starts : Map → Map → Units → Bool
 starts u t i = eqb (bit u i) 1 && (eqb i 0 || eqb (bit u (i - 1)) 0 || eqb (bit t (i - 1)) 1)
 
 -- the span ends with the next stop bit
-abbrev pub up_to : Units → Found → Held
-up_to i (At e) = Range i (e + 1)
-up_to i Nothing = NoStop
+abbrev pub up_to : Units → Option ℕ → Held
+up_to i (Some e) = Range i (e + 1)
+up_to i None = NoStop
 
 abbrev pub held_at : Map → Map → Units → Units → Held
 held_at u t area i = pick (starts u t i) (up_to i (least_from i (area - i) (λ k. eqb (bit t k) 1))) NoSpan
@@ -47,9 +45,9 @@ query_held s u t a j NoStop = refuse Damaged s u t
 query_held s u t a j (Range from to) = turn (Shown (span a (bytes_of (to - from) (unit_of s (block_at s j))))) s u t
 
 -- if no block holds the address, the call ends with refusal 1
-abbrev pub query_found : State → Map → Map → Address → Found → Turn
-query_found s u t a Nothing = refuse InvalidArgument s u t
-query_found s u t a (At j) = query_held s u t a j (held_in s u t a j)
+abbrev pub query_found : State → Map → Map → Address → Option ℕ → Turn
+query_found s u t a None = refuse InvalidArgument s u t
+query_found s u t a (Some j) = query_held s u t a j (held_in s u t a j)
 
 unfoldable pub query_turn : State → Map → Map → Address → Turn
 query_turn s u t a = pick (bad_shape s (length u) (length t)) (refuse BadShape s u t) (query_found s u t a (lookup s a))

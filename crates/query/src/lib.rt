@@ -4,7 +4,7 @@
 ghost use Rattle.std.specs.Prelude.{◌≡◌};
 ghost use Rattle.machine.specs.Span.{query_turn};
 
-use state::{Answer, Found, Held, Refusal, State};
+use state::{Answer, Held, Refusal, State};
 
 // Shows the span that starts at an address. Changes nothing.
 pub fn query(s: State, used: &[u32], stop: &[u32], address: u64) -> Answer
@@ -14,7 +14,7 @@ pub fn query(s: State, used: &[u32], stop: &[u32], address: u64) -> Answer
         return Answer::Refused(Refusal::BadShape);
     }
     let found = table::lookup_block(s, address);
-    let Found::At(j) = found else {
+    let Some(j) = found else {
         return Answer::Refused(Refusal::InvalidArgument);
     };
     let held = spans::held_in(s, used, stop, j, address);

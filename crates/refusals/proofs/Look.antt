@@ -1,4 +1,5 @@
 -- What a good shape adds of an address in a block: it is not 0, and no other block has it. Assumes nothing.
+use Rattle.std.specs.Prelude.{Option, Some, None}
 use Prim.Native.Nat.{ℕ, ◌+◌, ◌≤◌, ◌<◌}
 use mathlib.Core.List.{List}
 use mathlib.Core.Logic.{⊎_elim}
@@ -10,8 +11,6 @@ use lib.ListN.{length}
 use Rattle.numbers.proofs.Bools.{not_both, and_left, and_right}
 use Rattle.numbers.proofs.Split.{same_of_not-lt}
 use Rattle.state.specs.declared.State.{State}
-use Rattle.state.specs.declared.Found.{Found}
-use Rattle.state.specs.declared.Found.TheVariants.{At, Nothing}
 use Rattle.state.specs.Table.{block_at}
 use Rattle.state.specs.Find.{holds, lookup}
 use Rattle.shape.specs.Shaped.{Shaped}
@@ -43,9 +42,9 @@ module _ (s : State) (u t : List ℕ) (good : Good s u t) where
   not_later a i j p q l =
       ⊎_elim (λ e. omega (arith, e, high a i p, low a j q)) (λ e. omega (arith, e, high a j q, low a i p)) (facts.bytes_apart i j l q.0)
 
-  pub at_block : (a j : ℕ) → InBlock s u t a j → lookup s a ≡ At j
+  pub at_block : (a j : ℕ) → InBlock s u t a j → lookup s a ≡ Some j
   at_block a j h = go (lookup s a) (looks s u t a)
     where
-      go : (r : Found) → Looks s u t a r → r ≡ At j
-      go (At i) q = ap At (same_of_not-lt i j (not_later a i j q h) (not_later a j i h q))
-      go Nothing q = absurd (not_both (holds (block_at s j) a) h.1 (q j h.0))
+      go : (r : Option ℕ) → Looks s u t a r → r ≡ Some j
+      go (Some i) q = ap Some (same_of_not-lt i j (not_later a i j q h) (not_later a j i h q))
+      go None q = absurd (not_both (holds (block_at s j) a) h.1 (q j h.0))

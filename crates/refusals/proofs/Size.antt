@@ -1,4 +1,5 @@
 -- Alloc gives each refusal under its condition. Assumes nothing.
+use Rattle.std.specs.Prelude.{Option, Some, None}
 use Prim.Native.Nat.{ℕ, ◌/◌}
 use mathlib.Core.Bool.{false}
 use mathlib.Core.List.{List}
@@ -11,10 +12,6 @@ use Rattle.numbers.specs.Align.{align_up}
 use Rattle.numbers.specs.Units.{units_of}
 use Rattle.sizes.specs.Sizes.{rounded, ideal_size}
 use Rattle.state.specs.declared.State.{State}
-use Rattle.state.specs.declared.Found.{Found}
-use Rattle.state.specs.declared.Found.TheVariants.{At as slot_at, Nothing}
-use Rattle.state.specs.declared.Place.{Place}
-use Rattle.state.specs.declared.Place.TheVariants.{Base, Nowhere as noPlace}
 use Rattle.state.specs.declared.Hit.{Hit}
 use Rattle.state.specs.declared.Hit.TheVariants.{At, Nowhere}
 use Rattle.state.specs.declared.Refusal.{Refusal}
@@ -30,11 +27,11 @@ use Rattle.machine.proofs.Hits.{Hits, search_hits}
 use Rattle.machine.proofs.Searched.{OtherBlocks, search_other, search_slot, search_place, search_newest}
 
 module _ (s : State) (u t : List ℕ) where
-  none_placed : (size : ℕ) → NoRoom s u t size → lowest_place s size ≡ noPlace
-  none_placed size none = ap (placed s) (sym (least_only (s.length / 65536) (place_free s size) Nothing (λ k l h. none k h)))
+  none_placed : (size : ℕ) → NoRoom s u t size → lowest_place s size ≡ None
+  none_placed size none = ap (placed s) (sym (least_only (s.length / 65536) (place_free s size) None (λ k l h. none k h)))
 
-  none_slot : NoSlot s u t → lowest_slot s ≡ Nothing
-  none_slot none = sym (least_only s.slots (slot_free s) Nothing (λ k l h. none k h))
+  none_slot : NoSlot s u t → lowest_slot s ≡ None
+  none_slot none = sym (least_only s.slots (slot_free s) None (λ k l h. none k h))
 
   -- ---- of a rounded size: its pool and units, the state as the search leaves it, and the block to be made
   module _ (z : ℕ) where
@@ -66,20 +63,20 @@ module _ (s : State) (u t : List ℕ) where
     past : PastSlot s u t z → leb (words r b) r.w ≡ false
     past l = lt-leb (words r b) r.w (omega (arith, l, ap (λ (x : State). x.w) other, ap₂ (λ (x : State) (m : ℕ). words x m) other size_same))
 
-    past_refused : PastSlot s u t z → (x : Place) (f : Found) → (alloc_placed r u t p n b x f).answer ≡ Refused NoMapping
-    past_refused l (Base at) (slot_at slot) = rw (past l)
-    past_refused l (Base at) Nothing = refl
-    past_refused l noPlace f = refl
+    past_refused : PastSlot s u t z → (x : Option ℕ) (f : Option ℕ) → (alloc_placed r u t p n b x f).answer ≡ Refused NoMapping
+    past_refused l (Some at) (Some slot) = rw (past l)
+    past_refused l (Some at) None = refl
+    past_refused l None f = refl
 
-    slot_refused : (x : Place) → (alloc_placed r u t p n b x Nothing).answer ≡ Refused NoMapping
-    slot_refused (Base at) = refl
-    slot_refused noPlace = refl
+    slot_refused : (x : Option ℕ) → (alloc_placed r u t p n b x None).answer ≡ Refused NoMapping
+    slot_refused (Some at) = refl
+    slot_refused None = refl
 
     placed_refused : NoRoom s u t (size_for s u t z) ⊎ (NoSlot s u t ⊎ PastSlot s u t z) → (alloc_placed r u t p n b (lowest_place r b) (lowest_slot r)).answer ≡ Refused NoMapping
     placed_refused (inl none) =
-        ap (λ (x : Place). (alloc_placed r u t p n b x (lowest_slot r)).answer) (ap (lowest_place r) size_same ∙ search_place s u p n (size_for s u t z) ∙ none_placed (size_for s u t z) none)
+        ap (λ (x : Option ℕ). (alloc_placed r u t p n b x (lowest_slot r)).answer) (ap (lowest_place r) size_same ∙ search_place s u p n (size_for s u t z) ∙ none_placed (size_for s u t z) none)
     placed_refused (inr (inl none)) =
-        ap (λ (f : Found). (alloc_placed r u t p n b (lowest_place r b) f).answer) (search_slot s u p n ∙ none_slot none) ∙ slot_refused (lowest_place r b)
+        ap (λ (f : Option ℕ). (alloc_placed r u t p n b (lowest_place r b) f).answer) (search_slot s u p n ∙ none_slot none) ∙ slot_refused (lowest_place r b)
     placed_refused (inr (inr l)) = past_refused l (lowest_place r b) (lowest_slot r)
 
     searched_refused : NoneFound s u t z → NoRoom s u t (size_for s u t z) ⊎ (NoSlot s u t ⊎ PastSlot s u t z) → (alloc_searched r u t p n z (search_for s u z).hit).answer ≡ Refused NoMapping

@@ -11,7 +11,7 @@ ghost use Rattle.shape.specs.Shaped.{Shaped};
 ghost use Rattle.machine.specs.Turn.{turn_of, turn, with_live};
 ghost use Rattle.machine.specs.Release.{less_used, settle, release_held, release_turn};
 
-use state::{Answer, Found, Held, Outcome, Refusal, State};
+use state::{Answer, Held, Outcome, Refusal, State};
 
 // Frees the span of block `j` from unit `from` up to `to`: its bits, its counts, then its block if that is empty now.
 fn free_units(s: State, used: &mut [u32], stop: &mut [u32], j: usize, from: u32, to: u32) -> State
@@ -64,7 +64,7 @@ pub fn release(s: State, used: &mut [u32], stop: &mut [u32], address: u64) -> Ou
         return state::refused(s, Refusal::InvalidArgument);
     }
     let found = table::lookup_block(s, address);
-    let Found::At(j) = found else {
+    let Some(j) = found else {
         return state::refused(s, Refusal::InvalidState);
     };
     let held = spans::held_in(s, used, stop, j, address);

@@ -22,7 +22,7 @@ use Rattle.state.specs.Change.{moved_up, place_of, list_from, with_blocks, inser
 use Rattle.state.proofs.Tests.{all_more}
 use Rattle.state.proofs.Lists.{length_list_from, get_or-list_from, get_or-replicate}
 use Rattle.table.specs.Changeable.{Insertable}
-use Rattle.table.proofs.Shift.{moved_below, moved_here, moved_above, or_else_le}
+use Rattle.table.proofs.Shift.{moved_below, moved_here, moved_above, unwrap_or_le}
 use Rattle.machine.specs.Turn.{with_counts}
 use Rattle.machine.specs.Reset.{empty_table, oldest, keep, kept}
 use Rattle.reset.specs.Keepable.{Keepable}
@@ -51,7 +51,7 @@ module _ (r : State) (b : Block) (n : ℕ) (h : n < 64) (q : Sparse r n) where
   moved k = moved_up r.order (place_of r (emptied b)) r.count k
 
   place_low : place_of r (emptied b) ≤ r.count
-  place_low = or_else_le r.count (λ k. ltb b.base (block_at r (age_at r k)).base)
+  place_low = unwrap_or_le r.count (λ k. ltb b.base (block_at r (age_at r k)).base)
 
   age_is : (k : ℕ) → k < 64 → age_at (keep r b) k ≡ moved k
   age_is k l = get_or-list_from 0 64 moved 0 k l ∙ ap moved (zero-add k)

@@ -1,4 +1,5 @@
 -- What a good shape gives to the functions that the calls are made of. Assumes nothing.
+use Rattle.std.specs.Prelude.{Option, Some, None}
 use Prim.Native.Nat.{ℕ, ◌+◌, ◌-◌, ◌*◌, ◌/◌, ◌%◌, ◌^◌, ◌≤◌, ◌<◌}
 use mathlib.Core.Bool.{Bool, true, false}
 use mathlib.Core.Path.{◌≡◌, refl, sym, ap, subst, ◌∙◌}
@@ -15,8 +16,6 @@ use Rattle.block.specs.declared.Block.{Block}
 use Rattle.block.specs.Record.{Placed}
 use Rattle.sizes.specs.declared.Pool.{Pool}
 use Rattle.state.specs.declared.State.{State}
-use Rattle.state.specs.declared.Found.{Found}
-use Rattle.state.specs.declared.Found.TheVariants.{At, Nothing}
 use Rattle.state.specs.InTable.{InTable}
 use Rattle.state.specs.Table.{block_at, pool_at}
 use Rattle.state.specs.declared.Held.TheVariants.{NoSpan, Range}
@@ -98,19 +97,19 @@ module _ (s : State) (u t : ℕ) (f : Shaped s u t) where
   askable j a h e = (in_table j h, placed j h, within j a h e)
 
 -- ---- a block that the lookup finds holds the address
-pub found_in : (s : State) (a j : ℕ) → At j ≡ lookup s a → (j < s.count) × (holds (block_at s j) a ≡ true)
+pub found_in : (s : State) (a j : ℕ) → Some j ≡ lookup s a → (j < s.count) × (holds (block_at s j) a ≡ true)
 found_in s a j e =
     let q = subst (Least 0 s.count (λ i. holds (block_at s i) a)) (sym e) (least_of s.count (λ i. holds (block_at s i) a)) in
     (q.high, q.passes)
 
 -- ---- a span that stands at an address starts there and lies in its block
 module _ (t : List ℕ) (area : ℕ) where
-  up_to_in : (i : ℕ) (r : Found) → Least i (i + (area - i)) (λ k. eqb (bit t k) 1) r → (j e : ℕ) → up_to i r ≡ Range j e → (i ≡ j) × (j < e) × (e ≤ area)
-  up_to_in i (At k) q j e z =
+  up_to_in : (i : ℕ) (r : Option ℕ) → Least i (i + (area - i)) (λ k. eqb (bit t k) 1) r → (j e : ℕ) → up_to i r ≡ Range j e → (i ≡ j) × (j < e) × (e ≤ area)
+  up_to_in i (Some k) q j e z =
       let p : i ≡ j = cc in
       let r : k + 1 ≡ e = cc in
       (p, omega (arith, q.low), omega (arith, q.low, q.high))
-  up_to_in i Nothing q j e z = let z : ◌≡◌ {A = ℕ} 0 1 = cc in absurd (omega arith)
+  up_to_in i None q j e z = let z : ◌≡◌ {A = ℕ} 0 1 = cc in absurd (omega arith)
 
   held_at_in : (i : ℕ) (b : Bool) (j e : ℕ) → pick b (up_to i (least_from i (area - i) (λ k. eqb (bit t k) 1))) NoSpan ≡ Range j e → (i ≡ j) × (j < e) × (e ≤ area)
   held_at_in i true j e z = up_to_in i (least_from i (area - i) (λ k. eqb (bit t k) 1)) (least_is i (area - i) (λ k. eqb (bit t k) 1)) j e z

@@ -1,4 +1,5 @@
 -- A block of a good shape may leave the table, also once some of its units are free. Assumes nothing.
+use Rattle.std.specs.Prelude.{Option, Some, None, unwrap_or}
 use Prim.Native.Nat.{ℕ, ◌+◌, ◌-◌, ◌*◌, ◌≤◌, ◌<◌}
 use mathlib.Core.Bool.{Bool, true, false}
 use mathlib.Core.List.{List, [], ◌∷◌}
@@ -16,13 +17,11 @@ use Rattle.block.specs.Marking.{emptied, widened, released}
 use Rattle.sizes.specs.declared.Pool.{Pool}
 use Rattle.sizes.specs.Pools.{fresh_pool}
 use Rattle.state.specs.declared.State.{State}
-use Rattle.state.specs.declared.Found.{Found}
-use Rattle.state.specs.declared.Found.TheVariants.{At, Nothing}
 use Rattle.state.specs.InTable.{InTable}
 use Rattle.state.specs.Table.{zero_block, block_at, age_at, pool_at, one, only}
 use Rattle.state.specs.Shape.{is_zero, in_pool}
 use Rattle.state.specs.Find.{least}
-use Rattle.state.specs.Change.{or_else, place_of_age}
+use Rattle.state.specs.Change.{place_of_age}
 use Rattle.state.proofs.Tests.{every_at, sum_term}
 use Rattle.state.proofs.Find.{Least, least_of}
 use Rattle.shape.specs.Parts.{pool_sum}
@@ -85,9 +84,9 @@ module _ (s : State) (u t : ℕ) (f : Shaped s u t) (j : ℕ) (h : j < s.count) 
   pub place_low : place_of_age s j < s.count
   place_low = go (least s.count (λ k. eqb (age_at s k) j)) (least_of s.count (λ k. eqb (age_at s k) j))
     where
-      go : (r : Found) → Least 0 s.count (λ k. eqb (age_at s k) j) r → or_else s.count r < s.count
-      go (At k) q = q.high
-      go Nothing q =
+      go : (r : Option ℕ) → Least 0 s.count (λ k. eqb (age_at s k) j) r → unwrap_or r s.count < s.count
+      go (Some k) q = q.high
+      go None q =
           let w = f.place_of j h in
           absurd (not_both (eqb (age_at s w.0) j) (eq-eqb (age_at s w.0) j w.2) (q w.0 (omega arith) w.1))
 

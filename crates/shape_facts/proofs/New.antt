@@ -1,4 +1,5 @@
 -- A new block for a pool: its units, its words, and that it may enter. Assumes nothing.
+use Rattle.std.specs.Prelude.{Some}
 use Prim.Native.Nat.{ℕ, ◌-◌, ◌*◌, ◌^◌, ◌≤◌}
 use mathlib.Core.Path.{◌≡◌, refl}
 use native.Mathlib.Nat.{mul-le-mul, le_of_mul-le-mul_right}
@@ -9,8 +10,6 @@ use Rattle.numbers.proofs.Units.{units_hold, units_tight}
 use Rattle.block.specs.declared.Block.{Block}
 use Rattle.block.specs.Marking.{fresh}
 use Rattle.state.specs.declared.State.{State}
-use Rattle.state.specs.declared.Found.TheVariants.{At}
-use Rattle.state.specs.declared.Place.TheVariants.{Base}
 use Rattle.state.specs.Table.{pool_at}
 use Rattle.state.specs.Find.{lowest_slot, lowest_place}
 use Rattle.shape.specs.Shaped.{Shaped}
@@ -39,7 +38,7 @@ module _ (s : State) (u t p n bytes : ℕ) (m : Makes s u t p n bytes) where
   pub span_fits : n ≤ units_of bytes unit
   span_fits = le_of_mul-le-mul_right {m = n} {n = units_of bytes unit} {k = unit} (omega (arith, m.fits, units_hold bytes unit (omega (arith, unit_low)))) (omega (arith, unit_low))
 
-  module _ (at k : ℕ) (ea : Base at ≡ lowest_place s bytes) (ek : At k ≡ lowest_slot s) (words : units_of (units_of bytes unit) 32 ≤ s.w)
+  module _ (at k : ℕ) (ea : Some at ≡ lowest_place s bytes) (ek : Some k ≡ lowest_slot s) (words : units_of (units_of bytes unit) 32 ≤ s.w)
       (blocks : length s.blocks ≡ 64) (order : length s.order ≡ 64) (pools : length s.pools ≡ 3) where
     abbrev new : Block
     new = fresh at bytes p k (units_of bytes unit) n

@@ -1,4 +1,5 @@
 -- A rounded size in its pool: its units, what the search asks and leaves, and a new block's size. Assumes nothing.
+use Rattle.std.specs.Prelude.{Option, Some, None}
 use Prim.Native.Nat.{ℕ, zero, suc, ◌-◌, ◌*◌, ◌%◌, ◌^◌, ◌≤◌, ◌<◌}
 use mathlib.Core.Bool.{Bool, ◌&&◌}
 use mathlib.Core.List.{List}
@@ -17,8 +18,6 @@ use Rattle.sizes.specs.Pools.{pool_of, fresh_pool}
 use Rattle.sizes.proofs.Pools.{pool_below}
 use Rattle.sizes.proofs.Sizes.{ideal_holds, ideal_fits}
 use Rattle.state.specs.declared.State.{State}
-use Rattle.state.specs.declared.Found.{Found}
-use Rattle.state.specs.declared.Found.TheVariants.{At, Nothing}
 use Rattle.state.specs.Table.{block_at, pool_at, one}
 use Rattle.state.specs.Shape.{is_empty, in_pool}
 use Rattle.state.specs.Find.{latest, newest_size, size_or}
@@ -100,11 +99,11 @@ hit_ready r u t f j i n h q pos =
 newest_bounds : (r : State) (u t p : ℕ) → Shaped r u t → (0 < newest_size r p) × (newest_size r p ≤ 2 ^ 27)
 newest_bounds r u t p f = go (latest r.count (λ i. eqb (block_at r i).pool p)) (latest_of r.count (λ i. eqb (block_at r i).pool p))
   where
-    go : (x : Found) → Latest r.count (λ i. eqb (block_at r i).pool p) x → (0 < size_or r x) × (size_or r x ≤ 2 ^ 27)
-    go (At i) q =
+    go : (x : Option ℕ) → Latest r.count (λ i. eqb (block_at r i).pool p) x → (0 < size_or r x) × (size_or r x ≤ 2 ^ 27)
+    go (Some i) q =
         let b = f.sound i q.high in
         (f.sized i q.high, omega (arith, b.area_size, mul-le-mul {n₁ = (block_at r i).area} {m₁ = r.granularity} {n₂ = 524288} {m₂ = 256} (omega (arith, b.area_high, f.head.w_high)) f.head.g_high))
-    go Nothing q = (omega (arith, f.head.size_low), omega (arith, f.head.size_high))
+    go None q = (omega (arith, f.head.size_low), omega (arith, f.head.size_high))
 
 pub newest_asked : (r : State) (u t p bytes : ℕ) → Shaped r u t → bytes ≤ 2147483647 → (0 < newest_size r p) × (newest_size r p ≤ 2 ^ 27) × (bytes < 2 ^ 32)
 newest_asked r u t p bytes f h = let q = newest_bounds r u t p f in (q.0, q.1, omega arith)

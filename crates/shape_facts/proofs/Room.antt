@@ -1,4 +1,5 @@
 -- A new block enters a state of good shape: there is room in the table, its slot and place are free, and the sums stay in range. Assumes nothing.
+use Rattle.std.specs.Prelude.{Option, Some, None}
 use Prim.Native.Nat.{ℕ, ◌+◌, ◌/◌, ◌≤◌, ◌<◌}
 use mathlib.Core.Bool.{true, not}
 use mathlib.Core.Path.{◌≡◌, sym, ap, subst}
@@ -11,9 +12,6 @@ use Rattle.numbers.proofs.Split.{by_le}
 use Rattle.block.specs.declared.Block.{Block}
 use Rattle.sizes.specs.declared.Pool.{Pool}
 use Rattle.state.specs.declared.State.{State}
-use Rattle.state.specs.declared.Found.{Found}
-use Rattle.state.specs.declared.Found.TheVariants.{At, Nothing}
-use Rattle.state.specs.declared.Place.TheVariants.{Base}
 use Rattle.state.specs.Table.{block_at, pool_at, all, one, only}
 use Rattle.state.specs.Shape.{in_pool}
 use Rattle.state.specs.Find.{least, slot_free, lowest_slot, place_at, place_free, placed, lowest_place, clear}
@@ -26,20 +24,20 @@ use Rattle.table.specs.Changeable.{Insertable}
 use Rattle.shape_facts.proofs.Facts.{count_64}
 
 -- ---- the lowest slot is free, and one of those in force
-pub slot_is : (s : State) (k : ℕ) → At k ≡ lowest_slot s → (k < s.slots) × (slot_free s k ≡ true)
+pub slot_is : (s : State) (k : ℕ) → Some k ≡ lowest_slot s → (k < s.slots) × (slot_free s k ≡ true)
 slot_is s k e =
     let q = subst (Least 0 s.slots (slot_free s)) (sym e) (least_of s.slots (slot_free s)) in
     (q.high, q.passes)
 
 -- the lowest place holds the block within the arena
-pub place_in : (s : State) (size a : ℕ) → Base a ≡ lowest_place s size → a + size ≤ s.arena + s.length
+pub place_in : (s : State) (size a : ℕ) → Some a ≡ lowest_place s size → a + size ≤ s.arena + s.length
 place_in s size a e = go (least (s.length / 65536) (place_free s size)) (least_of (s.length / 65536) (place_free s size)) e
   where
-    go : (r : Found) → Least 0 (s.length / 65536) (place_free s size) r → Base a ≡ placed s r → a + size ≤ s.arena + s.length
-    go (At k) q z =
+    go : (r : Option ℕ) → Least 0 (s.length / 65536) (place_free s size) r → Some a ≡ placed s r → a + size ≤ s.arena + s.length
+    go (Some k) q z =
         let at : a ≡ place_at s k = cc in
         omega (arith, at, leb-true (place_at s k + size) (s.arena + s.length) (and_left (leb (place_at s k + size) (s.arena + s.length)) (all s.count (λ i. clear (block_at s i) (place_at s k) size)) q.passes))
-    go Nothing q z = let z : ◌≡◌ {A = ℕ} 0 1 = cc in absurd (omega arith)
+    go None q z = let z : ◌≡◌ {A = ℕ} 0 1 = cc in absurd (omega arith)
 
 module _ (s : State) (u t : ℕ) (f : Shaped s u t) where
   -- a slot is free: there are fewer blocks than slots

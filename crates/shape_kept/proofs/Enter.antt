@@ -1,4 +1,5 @@
 -- A block comes as the newest: if its slot and its bytes were free and its pool counts it, the shape stays good. Assumes nothing.
+use Rattle.std.specs.Prelude.{Option, Some, None, unwrap_or}
 use Prim.Native.Nat.{ℕ, ◌+◌, ◌-◌, ◌≤◌, ◌<◌}
 use mathlib.Core.Bool.{Bool, true}
 use mathlib.Core.List.{List}
@@ -14,12 +15,10 @@ use Rattle.block.specs.declared.Block.{Block}
 use Rattle.sizes.specs.declared.Pool.{Pool}
 use Rattle.sizes.specs.Pools.{fresh_pool}
 use Rattle.state.specs.declared.State.{State}
-use Rattle.state.specs.declared.Found.{Found}
-use Rattle.state.specs.declared.Found.TheVariants.{At, Nothing}
 use Rattle.state.specs.Table.{zero_block, block_at, age_at, pool_at, sum}
 use Rattle.state.specs.Shape.{is_zero, good_shape}
 use Rattle.state.specs.Find.{least}
-use Rattle.state.specs.Change.{with_rest, or_else, place_of, moved_up}
+use Rattle.state.specs.Change.{with_rest, place_of, moved_up}
 use Rattle.state.proofs.Tests.{sum_same, sum_more}
 use Rattle.state.proofs.Find.{Least, least_of}
 use Rattle.table.proofs.Shift.{moved_below, moved_here, moved_above}
@@ -43,13 +42,13 @@ place_is s b = go (least s.count test) (least_of s.count test)
     test : ℕ → Bool
     test k = ltb b.base (block_at s (age_at s k)).base
 
-    go : (r : Found) → Least 0 s.count test r → PlaceIs s b (or_else s.count r)
-    go (At k) q = record {
+    go : (r : Option ℕ) → Least 0 s.count test r → PlaceIs s b (unwrap_or r s.count)
+    go (Some k) q = record {
       low = omega (arith, q.high);
       before = λ i l. ltb-false b.base (block_at s (age_at s i)).base (q.before i (omega arith) l);
       behind = λ l. ltb-true b.base (block_at s (age_at s k)).base q.passes;
     }
-    go Nothing q = record {
+    go None q = record {
       low = omega arith;
       before = λ i l. ltb-false b.base (block_at s (age_at s i)).base (q i (omega arith) l);
       behind = λ l. absurd (omega arith);

@@ -1,4 +1,5 @@
 -- A block goes, and its pool no longer counts it: the shape stays good, but for the live count. Assumes nothing.
+use Rattle.std.specs.Prelude.{Option, Some, None, unwrap_or}
 use Prim.Native.Nat.{ℕ, ◌+◌, ◌-◌, ◌≤◌, ◌<◌}
 use mathlib.Core.Bool.{Bool, true}
 use mathlib.Core.List.{List}
@@ -13,12 +14,10 @@ use Rattle.block.specs.declared.Block.{Block}
 use Rattle.sizes.specs.declared.Pool.{Pool}
 use Rattle.sizes.specs.Pools.{fresh_pool}
 use Rattle.state.specs.declared.State.{State}
-use Rattle.state.specs.declared.Found.{Found}
-use Rattle.state.specs.declared.Found.TheVariants.{At, Nothing}
 use Rattle.state.specs.Table.{zero_block, block_at, age_at, pool_at, sum}
 use Rattle.state.specs.Shape.{is_zero, good_shape}
 use Rattle.state.specs.Find.{least}
-use Rattle.state.specs.Change.{with_rest, or_else, place_of_age, past, fallen}
+use Rattle.state.specs.Change.{with_rest, place_of_age, past, fallen}
 use Rattle.state.proofs.Tests.{sum_same}
 use Rattle.state.proofs.Find.{Least, least_of}
 use Rattle.table.proofs.Shift.{past_above, fallen_below}
@@ -41,9 +40,9 @@ module _ (s : State) (u t : ℕ) (f : Shaped s u t) where
       test : ℕ → Bool
       test k = eqb (age_at s k) j
 
-      go : (r : Found) → Least 0 s.count test r → or_else s.count r < s.count → age_at s (or_else s.count r) ≡ j
-      go (At k) q l = eqb-true (age_at s k) j q.passes
-      go Nothing q l = absurd (omega arith)
+      go : (r : Option ℕ) → Least 0 s.count test r → unwrap_or r s.count < s.count → age_at s (unwrap_or r s.count) ≡ j
+      go (Some k) q l = eqb-true (age_at s k) j q.passes
+      go None q l = absurd (omega arith)
 
   pub ages_differ : (k l : ℕ) → k < s.count → l < s.count → (k ≡ l → ⊥) → age_at s k ≡ age_at s l → ⊥
   ages_differ k l hk hl ne e =

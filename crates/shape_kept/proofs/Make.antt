@@ -1,4 +1,5 @@
 -- A new block is made for a span, and the span marked in it: the shape stays good. Assumes nothing.
+use Rattle.std.specs.Prelude.{Option, Some, None, unwrap_or}
 use Prim.Native.Nat.{ℕ, ◌+◌, ◌-◌, ◌*◌, ◌/◌, ◌%◌, ◌≤◌, ◌<◌}
 use mathlib.Core.Bool.{true, false, not}
 use mathlib.Core.List.{List}
@@ -19,13 +20,10 @@ use Rattle.sizes.specs.Limits.{is_granularity}
 use Rattle.sizes.proofs.InForce.{granularity_is, granularity_word, base_size_divides, granularity_listed}
 use Rattle.sizes.proofs.Sizes.{ideal_words}
 use Rattle.state.specs.declared.State.{State}
-use Rattle.state.specs.declared.Found.{Found}
-use Rattle.state.specs.declared.Found.TheVariants.{At, Nothing}
-use Rattle.state.specs.declared.Place.TheVariants.{Base}
 use Rattle.state.specs.Table.{block_at, age_at, pool_at, all, one}
 use Rattle.state.specs.Shape.{is_empty, good_shape}
 use Rattle.state.specs.Find.{least, latest, lowest_place, place_at, place_free, placed, clear, newest_size, size_or}
-use Rattle.state.specs.Change.{or_else, place_of, moved_up, with_blocks, inserted}
+use Rattle.state.specs.Change.{place_of, moved_up, with_blocks, inserted}
 use Rattle.state.proofs.Tests.{all_at}
 use Rattle.state.proofs.Find.{Least, least_of, Latest, latest_of}
 use Rattle.shape.specs.Shaped.{Shaped}
@@ -46,15 +44,15 @@ use Rattle.shape_kept.proofs.Enter.{enter_good}
 use Rattle.shape_kept.proofs.Records.{Bare, Changed, marked_changed}
 
 -- ---- the place that was found
-pub place_found : (s : State) (size at : ℕ) → Base at ≡ lowest_place s size → (k : ℕ) × (at ≡ place_at s k) × (place_free s size k ≡ true)
+pub place_found : (s : State) (size at : ℕ) → Some at ≡ lowest_place s size → (k : ℕ) × (at ≡ place_at s k) × (place_free s size k ≡ true)
 place_found s size at e = go (least (s.length / 65536) (place_free s size)) (least_of (s.length / 65536) (place_free s size)) e
   where
-    go : (r : Found) → Least 0 (s.length / 65536) (place_free s size) r → Base at ≡ placed s r → (k : ℕ) × (at ≡ place_at s k) × (place_free s size k ≡ true)
-    go (At k) q z = let is : at ≡ place_at s k = cc in (k, is, q.passes)
-    go Nothing q z = let z : ◌≡◌ {A = ℕ} 0 1 = cc in absurd (omega arith)
+    go : (r : Option ℕ) → Least 0 (s.length / 65536) (place_free s size) r → Some at ≡ placed s r → (k : ℕ) × (at ≡ place_at s k) × (place_free s size k ≡ true)
+    go (Some k) q z = let is : at ≡ place_at s k = cc in (k, is, q.passes)
+    go None q z = let z : ◌≡◌ {A = ℕ} 0 1 = cc in absurd (omega arith)
 
 -- a block there shares no byte with a standing one
-pub place_apart : (s : State) (b : Block) → Base b.base ≡ lowest_place s b.size → (i : ℕ) → i < s.count → Apart (block_at s i) b
+pub place_apart : (s : State) (b : Block) → Some b.base ≡ lowest_place s b.size → (i : ℕ) → i < s.count → Apart (block_at s i) b
 place_apart s b e i l =
     let q = place_found s b.size b.base e in
     let free = and_right (leb (place_at s q.0 + b.size) (s.arena + s.length)) (all s.count (λ x. clear (block_at s x) (place_at s q.0) b.size)) q.2 in
@@ -69,14 +67,14 @@ module _ (s : State) (v w : ℕ) (f : Shaped s v w) where
   newest_whole : (p : ℕ) → newest_size s p % (32 * s.granularity) ≡ 0
   newest_whole p = go (latest s.count (λ i. eqb (block_at s i).pool p)) (latest_of s.count (λ i. eqb (block_at s i).pool p))
     where
-      go : (x : Found) → Latest s.count (λ i. eqb (block_at s i).pool p) x → size_or s x % (32 * s.granularity) ≡ 0
-      go (At i) q =
+      go : (x : Option ℕ) → Latest s.count (λ i. eqb (block_at s i).pool p) x → size_or s x % (32 * s.granularity) ≡ 0
+      go (Some i) q =
           let b = f.sound i q.high in
           let area = (block_at s i).area in
           let whole : area ≡ area / 32 * 32 = omega (arith, b.area_whole) in
           let is : (block_at s i).size ≡ area / 32 * (32 * s.granularity) = sym b.area_size ∙ ap (λ (n : ℕ). n * s.granularity) whole ∙ omega arith in
           ap (λ (n : ℕ). n % (32 * s.granularity)) is ∙ mul-mod_left (area / 32) (32 * s.granularity)
-      go Nothing q =
+      go None q =
           let r = granularity_is s.granularity good in
           ap (λ (n : ℕ). s.size % n) (granularity_word s.granularity good) ∙ base_size_divides s.size (5 + r.exponent) f.head.size_good (omega (arith, r.high))
 
@@ -221,7 +219,7 @@ module _ (s : State) (v w : ℕ) (f : Shaped s v w) (z : Sized s) (p n bytes at 
       (place_apart s b k.place i l)
 
   place_same : place_of s b ≡ place_of s c
-  place_same = ap (λ (x : ℕ). or_else s.count (least s.count (λ y. ltb x (block_at s (age_at s y)).base))) (sym changed.lies.base)
+  place_same = ap (λ (x : ℕ). unwrap_or (least s.count (λ y. ltb x (block_at s (age_at s y)).base)) s.count) (sym changed.lies.base)
 
   pub make_good : (u t : List ℕ) → good_shape (alloc_made s u t p n size at slot).state v w ≡ true
   make_good u t =

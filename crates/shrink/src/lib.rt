@@ -7,7 +7,7 @@ ghost use Rattle.std.specs.Prelude.{◌≡◌};
 ghost use Rattle.machine.specs.Turn.{turn_of};
 ghost use Rattle.machine.specs.Shrink.{shrink_turn};
 
-use state::{Found, Held, Outcome, Refusal, State};
+use state::{Held, Outcome, Refusal, State};
 
 // Shortens the span that starts at an address to the units that `size` bytes take; a size of 0 releases it.
 pub fn shrink(s: State, used: &mut [u32], stop: &mut [u32], address: u64, size: u64) -> Outcome
@@ -23,7 +23,7 @@ pub fn shrink(s: State, used: &mut [u32], stop: &mut [u32], address: u64, size: 
         return state::refused(s, Refusal::InvalidArgument);
     }
     let found = table::lookup_block(s, address);
-    let Found::At(j) = found else {
+    let Some(j) = found else {
         return state::refused(s, Refusal::InvalidArgument);
     };
     let held = spans::held_in(s, used, stop, j, address);

@@ -1,14 +1,12 @@
 -- A block enters the table or leaves it: the blocks by age, their ages by address, zeros after both, and its pool's block count and area.
 -- Assumes nothing.
-use Rattle.std.specs.Prelude.{ℕ, zero, suc, ◌+◌, ◌-◌, List, [], ◌∷◌, ltb, eqb, get_or, set}
+use Rattle.std.specs.Prelude.{ℕ, zero, suc, ◌+◌, ◌-◌, List, [], ◌∷◌, ltb, eqb, get_or, set, unwrap_or}
 use Rattle.numbers.specs.Names.{Units, Age}
 use Rattle.numbers.specs.Pick.{pick}
 use Rattle.sizes.specs.Limits.{slot_limit}
 use Rattle.block.specs.declared.Block.{Block}
 use Rattle.sizes.specs.declared.Pool.{Pool}
 use Rattle.state.specs.declared.State.{State}
-use Rattle.state.specs.declared.Found.{Found}
-use Rattle.state.specs.declared.Found.TheVariants.{At, Nothing}
 use Rattle.state.specs.Table.{zero_block, block_at, age_at, pool_at}
 use Rattle.state.specs.Find.{least}
 
@@ -16,10 +14,6 @@ use Rattle.state.specs.Find.{least}
 unfoldable pub list_from : {A : Type 0} → ℕ → ℕ → (ℕ → A) → List A
 list_from k zero f = []
 list_from k (suc n) f = f k ∷ list_from (suc k) n f
-
-abbrev pub or_else : ℕ → Found → ℕ
-or_else n (At k) = k
-or_else n Nothing = n
 
 -- the record with another live count and another table
 abbrev pub with_rest : State → ℕ → ℕ → List Block → List Age → List Pool → State
@@ -48,7 +42,7 @@ with_blocks p blocks area = record { granularity = p.granularity; blocks = block
 
 -- ---- a block enters: it is the newest, and its place in the address order is before the first block of higher base
 abbrev pub place_of : State → Block → ℕ
-place_of s b = or_else s.count (least s.count (λ k. ltb b.base (block_at s (age_at s k)).base))
+place_of s b = unwrap_or (least s.count (λ k. ltb b.base (block_at s (age_at s k)).base)) s.count
 
 -- the age at place j, after age was put at place k and those from there on moved up by one
 abbrev pub moved_up : List Age → ℕ → Age → ℕ → Age
@@ -69,7 +63,7 @@ fallen i age = pick (ltb i age) (age - 1) age
 
 -- its place in the address order
 abbrev pub place_in : List Age → ℕ → Age → ℕ
-place_in order count i = or_else count (least count (λ k. eqb (get_or order k 0) i))
+place_in order count i = unwrap_or (least count (λ k. eqb (get_or order k 0) i)) count
 
 abbrev pub place_of_age : State → Age → ℕ
 place_of_age s i = place_in s.order s.count i

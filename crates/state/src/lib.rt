@@ -37,20 +37,6 @@ pub struct State {
     pub pools: [Pool; 3],
 }
 
-// What a search of the table finds: a block's age, or a slot.
-#[derive(Clone, Copy)]
-pub enum Found {
-    At(usize),
-    Nothing,
-}
-
-// A place for a new block in the arena.
-#[derive(Clone, Copy)]
-pub enum Place {
-    Base(u64),
-    Nowhere,
-}
-
 // Makes the block of zeros that stands behind the last block of the table.
 pub fn zero_block() -> Block
     ensures { result ≡ zero_block }

@@ -1,4 +1,5 @@
 -- The block at an address, by the order of addresses. Assumes nothing.
+use Rattle.std.specs.Prelude.{Some, None}
 use Prim.Native.Nat.{ℕ, ◌+◌, ◌≤◌, ◌<◌}
 use mathlib.Core.Bool.{true, false}
 use mathlib.Core.Logic.{◌⊎◌, inl, inr}
@@ -8,7 +9,6 @@ use borrow.Author.Tests.{le-leb, lt-leb, lt-ltb, le-ltb}
 use Rattle.numbers.proofs.Split.{by_le}
 use Rattle.block.specs.declared.Block.{Block}
 use Rattle.state.specs.declared.State.{State}
-use Rattle.state.specs.declared.Found.TheVariants.{At, Nothing}
 use Rattle.state.specs.Table.{block_at, age_at}
 use Rattle.state.specs.Find.{holds, lookup}
 use Rattle.state.proofs.Find.{least_only}
@@ -31,9 +31,9 @@ module _ (s : State) (o : Ordered s) (a : ℕ) where
       by_le k l (λ g. holds_out (here l) a (inl (omega (arith, o.behind k l (omega (arith, ne)) hl))))
       (λ g. holds_out (here l) a (inr (omega (arith, o.behind l k g hk))))
 
-  pub look_here : (k : ℕ) → k < s.count → (here k).base ≤ a → a < (here k).base + (here k).size → At (age_at s k) ≡ lookup s a
+  pub look_here : (k : ℕ) → k < s.count → (here k).base ≤ a → a < (here k).base + (here k).size → Some (age_at s k) ≡ lookup s a
   look_here k h p q =
-      least_only s.count (λ i. holds (block_at s i) a) (At (age_at s k))
+      least_only s.count (λ i. holds (block_at s i) a) (Some (age_at s k))
       (record {
         low = omega arith;
         high = o.age k h;
@@ -44,7 +44,7 @@ module _ (s : State) (o : Ordered s) (a : ℕ) where
             (other k w.0 h w.1 p q (λ e. omega (arith, sym w.2 ∙ ap (age_at s) e)));
       })
 
-  pub look_none : ((k : ℕ) → k < s.count → (a < (here k).base) ⊎ ((here k).base + (here k).size ≤ a)) → Nothing ≡ lookup s a
+  pub look_none : ((k : ℕ) → k < s.count → (a < (here k).base) ⊎ ((here k).base + (here k).size ≤ a)) → None ≡ lookup s a
   look_none f =
-      least_only s.count (λ i. holds (block_at s i) a) Nothing
+      least_only s.count (λ i. holds (block_at s i) a) None
       (λ j x l. let w = o.has j l in subst (λ (i : ℕ). holds (block_at s i) a ≡ false) w.2 (holds_out (here w.0) a (f w.0 w.1)))

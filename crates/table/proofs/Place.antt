@@ -1,4 +1,5 @@
 -- The lowest place for a new block, by the order of addresses. Assumes nothing.
+use Rattle.std.specs.Prelude.{Some, None}
 use Prim.Native.Nat.{ℕ, ◌+◌, ◌-◌, ◌/◌, ◌%◌, ◌^◌, ◌≤◌, ◌<◌}
 use mathlib.Core.Bool.{true, false}
 use mathlib.Core.Logic.{◌⊎◌, inl, inr}
@@ -12,8 +13,6 @@ use Rattle.numbers.proofs.Align.{up_low, up_high, up_divides}
 use Rattle.numbers.proofs.Split.{by_eq, by_le}
 use Rattle.block.specs.declared.Block.{Block}
 use Rattle.state.specs.declared.State.{State}
-use Rattle.state.specs.declared.Found.TheVariants.{At, Nothing}
-use Rattle.state.specs.declared.Place.TheVariants.{Base, Nowhere}
 use Rattle.state.specs.Table.{block_at, age_at, all}
 use Rattle.state.specs.Find.{clear, place_at, place_free, placed, lowest_place}
 use Rattle.state.proofs.Tests.{all_of, all_fails}
@@ -116,16 +115,16 @@ module _ (s : State) (r : Arranged s) (size : ℕ) where
   -- ---- the answers
   -- at is clear of every block: the rule's answer
   place_here : (k at : ℕ) → 0 < size → Passed k at → at + size ≤ s.arena + s.length → ((l : ℕ) → k ≤ l → l < s.count → at + size ≤ (here l).base)
-      → Base at ≡ lowest_place s size
+      → Some at ≡ lowest_place s size
   place_here k at pos p h f =
       let e = at_index at p.whole p.low in
       let free : (i : ℕ) → i < s.count → clear (block_at s i) at size ≡ true = λ i g.
       let w = r.ordered.has i g in
       subst (λ (n : ℕ). clear (block_at s n) at size ≡ true) w.2
       (clear_out (here w.0) at size (by_le k w.0 (λ m. inl (f w.0 m w.1)) (λ m. inr (p.behind w.0 m)))) in
-      sym (ap Base e)
+      sym (ap Some e)
       ∙ ap (placed s)
-      (least_only (s.length / 65536) (place_free s size) (At (index at))
+      (least_only (s.length / 65536) (place_free s size) (Some (index at))
       (record {
         low = omega arith;
         high = omega (arith, r.length, p.low);
@@ -133,18 +132,18 @@ module _ (s : State) (r : Arranged s) (size : ℕ) where
         before = λ j x l. blocked_here j (p.blocked (place_at s j) (omega arith) (omega (arith, e)) (omega (arith, r.arena)));
       }))
 
-  pub place_gap : (k at : ℕ) → 0 < size → Passed k at → k < s.count → at + size ≤ (here k).base → Base at ≡ lowest_place s size
+  pub place_gap : (k at : ℕ) → 0 < size → Passed k at → k < s.count → at + size ≤ (here k).base → Some at ≡ lowest_place s size
   place_gap k at pos p h g =
       let o = r.ordered in
       place_here k at pos p (omega (arith, r.high (age_at s k) (o.age k h)))
       (λ l m n. by_eq l k (λ e. rw e g) (λ ne. omega (arith, o.behind k l (omega (arith, ne)) n)))
 
-  pub place_last : (at : ℕ) → 0 < size → Passed s.count at → at + size ≤ s.arena + s.length → Base at ≡ lowest_place s size
+  pub place_last : (at : ℕ) → 0 < size → Passed s.count at → at + size ≤ s.arena + s.length → Some at ≡ lowest_place s size
   place_last at pos p h = place_here s.count at pos p h (λ l m n. absurd (omega arith))
 
-  pub place_none : (at : ℕ) → Passed s.count at → s.arena + s.length < at + size → Nowhere ≡ lowest_place s size
+  pub place_none : (at : ℕ) → Passed s.count at → s.arena + s.length < at + size → None ≡ lowest_place s size
   place_none at p h =
       ap (placed s)
-      (least_only (s.length / 65536) (place_free s size) Nothing
+      (least_only (s.length / 65536) (place_free s size) None
       (λ j x l. by_le at (place_at s j) (λ g. past_here j (omega arith))
       (λ g. blocked_here j (p.blocked (place_at s j) (omega arith) g (omega (arith, r.arena))))))

@@ -1,4 +1,5 @@
 -- Elements that move by one place. Assumes nothing.
+use Rattle.std.specs.Prelude.{Option, Some, None, unwrap_or}
 use Prim.Native.Nat.{ℕ, ◌+◌, ◌-◌, ◌≤◌, ◌<◌}
 use mathlib.Core.List.{List}
 use mathlib.Core.Path.{◌≡◌, refl}
@@ -6,10 +7,8 @@ use native.Mathlib.Omega.{arith}
 use borrow.Author.Tests.{lt-ltb, le-ltb, eq-eqb, ne_eqb}
 use lib.ListN.{get_or}
 use mathlib.Core.Bool.{Bool}
-use Rattle.state.specs.declared.Found.{Found}
-use Rattle.state.specs.declared.Found.TheVariants.{At, Nothing}
 use Rattle.state.specs.Find.{least}
-use Rattle.state.specs.Change.{moved_up, past, fallen, or_else}
+use Rattle.state.specs.Change.{moved_up, past, fallen}
 use Rattle.state.proofs.Find.{Least, least_of}
 
 pub moved_below : (order : List ℕ) (k age j : ℕ) → j < k → moved_up order k age j ≡ get_or order j 0
@@ -34,9 +33,9 @@ pub fallen_above : (i age : ℕ) → i < age → fallen i age ≡ age - 1
 fallen_above i age h = rw (lt-ltb i age h)
 
 -- a place that is looked for below n is at most n
-pub or_else_le : (n : ℕ) (test : ℕ → Bool) → or_else n (least n test) ≤ n
-or_else_le n test = go (least n test) (least_of n test)
+pub unwrap_or_le : (n : ℕ) (test : ℕ → Bool) → unwrap_or (least n test) n ≤ n
+unwrap_or_le n test = go (least n test) (least_of n test)
   where
-    go : (r : Found) → Least 0 n test r → or_else n r ≤ n
-    go (At k) q = omega (arith, q.high)
-    go Nothing q = omega arith
+    go : (r : Option ℕ) → Least 0 n test r → unwrap_or r n ≤ n
+    go (Some k) q = omega (arith, q.high)
+    go None q = omega arith

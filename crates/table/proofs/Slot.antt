@@ -1,4 +1,5 @@
 -- The slots that standing blocks have, one block after the other. Assumes nothing.
+use Rattle.std.specs.Prelude.{Some, None}
 use Prim.Native.Nat.{ℕ, zero, suc, ◌+◌, ◌≤◌, ◌<◌}
 use mathlib.Core.Bool.{Bool, true, false, not}
 use mathlib.Core.List.{List}
@@ -11,7 +12,6 @@ use lib.Seq.{get_or-set_same, get_or-set_other}
 use Rattle.numbers.proofs.Bools.{and_true}
 use Rattle.numbers.proofs.Split.{by_eq}
 use Rattle.state.specs.declared.State.{State}
-use Rattle.state.specs.declared.Found.TheVariants.{At, Nothing}
 use Rattle.state.specs.Table.{block_at, all}
 use Rattle.state.specs.Find.{slot_free, lowest_slot}
 use Rattle.state.proofs.Tests.{all_more, all_fails}
@@ -50,9 +50,9 @@ module _ (s : State) (taken : List Bool) (t : TakenSlots s s.count taken) (few :
   pub slot_taken : (k : ℕ) → k < s.slots → get_or taken k false ≡ true → slot_free s k ≡ false
   slot_taken k h e = not-true (slot_free s k) (sym (t.says k (omega arith)) ∙ e)
 
-  pub slot_here : (k : ℕ) → k < s.slots → ((j : ℕ) → j < k → slot_free s j ≡ false) → get_or taken k false ≡ false → At k ≡ lowest_slot s
+  pub slot_here : (k : ℕ) → k < s.slots → ((j : ℕ) → j < k → slot_free s j ≡ false) → get_or taken k false ≡ false → Some k ≡ lowest_slot s
   slot_here k h f e =
-      least_only s.slots (slot_free s) (At k) (record { low = omega arith; high = h; passes = slot_free_lem k h e; before = λ j x l. f j l })
+      least_only s.slots (slot_free s) (Some k) (record { low = omega arith; high = h; passes = slot_free_lem k h e; before = λ j x l. f j l })
 
-  pub slot_none : ((j : ℕ) → j < s.slots → slot_free s j ≡ false) → Nothing ≡ lowest_slot s
-  slot_none f = least_only s.slots (slot_free s) Nothing (λ j x l. f j l)
+  pub slot_none : ((j : ℕ) → j < s.slots → slot_free s j ≡ false) → None ≡ lowest_slot s
+  slot_none f = least_only s.slots (slot_free s) None (λ j x l. f j l)

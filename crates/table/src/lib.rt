@@ -10,7 +10,7 @@ ghost use Rattle.sizes.specs.Limits.{slot_limit};
 ghost use Rattle.state.specs.Find.{lookup, lowest_slot, newest_size, lowest_place};
 ghost use Rattle.table.specs.Ordered.{Ordered, Slotted, TakenSlots, Arranged};
 
-use state::{Found, Place, State};
+use state::State;
 
 // Returns the size of the pool's newest block, or the base size if it has none. A new block's size starts from it.
 pub fn newest_size(s: State, pool: usize) -> u64
@@ -25,7 +25,7 @@ pub fn newest_size(s: State, pool: usize) -> u64
 }
 
 // Finds the block that holds an address: binary search over the address order.
-pub fn lookup_block(s: State, address: u64) -> Found
+pub fn lookup_block(s: State, address: u64) -> Option<usize>
     requires { Ordered s }
     ensures { result ≡ lookup s address }
 {
@@ -39,12 +39,12 @@ pub fn lookup_block(s: State, address: u64) -> Found
             high = mid;
         } else {
             if address - b.base < b.size {
-                return Found::At(i);
+                return Some(i);
             }
             low = mid + 1;
         }
     }
-    Found::Nothing
+    None
 }
 
 // Returns which slots the blocks have.
@@ -60,7 +60,7 @@ fn taken_slots(s: State) -> [bool; state::SLOT_LIMIT]
 }
 
 // Finds the lowest slot that no block has.
-pub fn lowest_free_slot(s: State) -> Found
+pub fn lowest_free_slot(s: State) -> Option<usize>
     requires { Slotted s }
     ensures { result ≡ lowest_slot s }
 {
@@ -68,16 +68,16 @@ pub fn lowest_free_slot(s: State) -> Found
     let mut k: usize = 0;
     while k < s.slots {
         if !taken[k] {
-            return Found::At(k);
+            return Some(k);
         }
         k += 1;
     }
-    Found::Nothing
+    None
 }
 
 // Finds the lowest multiple of 65,536 in the arena where a block of `size` bytes fits: before the first block, in the first gap between
 // blocks that holds it, or after the last one.
-pub fn lowest_place(s: State, size: u64) -> Place
+pub fn lowest_place(s: State, size: u64) -> Option<u64>
     requires { Arranged s × (0 < size) × (size < 2 ^ 32) }
     ensures { result ≡ lowest_place s size }
 {
@@ -87,13 +87,13 @@ pub fn lowest_place(s: State, size: u64) -> Place
         let i = s.order[k];
         let b = s.blocks[i];
         if at + size <= b.base {
-            return Place::Base(at);
+            return Some(at);
         }
         at = numbers::align_up(b.base + b.size, sizes::PAGE);
         k += 1;
     }
     if at + size <= s.arena + s.length {
-        return Place::Base(at);
+        return Some(at);
     }
-    Place::Nowhere
+    None
 }

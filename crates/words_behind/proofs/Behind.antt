@@ -1,4 +1,5 @@
 -- Every call on a state: words from slots times W on are neither read nor written. Assumes nothing.
+use Rattle.std.specs.Prelude.{Option, Some, None}
 use Prim.Native.Nat.{ℕ, ◌-◌, ◌*◌, ◌≤◌, ◌<◌}
 use mathlib.Core.Bool.{Bool, true, false, ◌||◌}
 use mathlib.Core.List.{List, ◌++◌}
@@ -15,10 +16,6 @@ use Rattle.std.specs.declared.result.Result.{Result}
 use Rattle.std.specs.declared.result.Result.TheVariants.{Ok, Err}
 use Rattle.sizes.specs.Sizes.{rounded, ideal_size}
 use Rattle.state.specs.declared.State.{State}
-use Rattle.state.specs.declared.Found.{Found}
-use Rattle.state.specs.declared.Found.TheVariants.{At as slot_at, Nothing}
-use Rattle.state.specs.declared.Place.{Place}
-use Rattle.state.specs.declared.Place.TheVariants.{Base, Nowhere as noPlace}
 use Rattle.state.specs.declared.Held.{Held}
 use Rattle.state.specs.declared.Held.TheVariants.{NoSpan, NoStop, Range}
 use Rattle.state.specs.declared.Hit.{Hit}
@@ -63,7 +60,7 @@ module _ (s : State) (u t v v' : List ℕ) (z : Sized s) (room : s.slots * s.w �
   block_room good j h = slot_room s (length u) (length t) (shaped good) (block_at s j).slot ((shaped good).sound j h).slot
 
   -- a block that was looked up
-  found_room : Good → (a j : ℕ) → lookup s a ≡ slot_at j → Room u t v v' s.w (block_at s j).slot
+  found_room : Good → (a j : ℕ) → lookup s a ≡ Some j → Room u t v v' s.w (block_at s j).slot
   found_room good a j e = block_room good j (found_in s a j (sym e)).0
 
   -- ---- query
@@ -73,9 +70,9 @@ module _ (s : State) (u t v v' : List ℕ) (z : Sized s) (room : s.slots * s.w �
     shown_behind j NoStop = refl
     shown_behind j (Range i e) = refl
 
-    queried_behind : Good → (f : Found) → lookup s a ≡ f → query_found s (u ++ v) (t ++ v') a f ≡ behind (query_found s u t a f) v v'
-    queried_behind good Nothing e = refl
-    queried_behind good (slot_at j) e =
+    queried_behind : Good → (f : Option ℕ) → lookup s a ≡ f → query_found s (u ++ v) (t ++ v') a f ≡ behind (query_found s u t a f) v v'
+    queried_behind good None e = refl
+    queried_behind good (Some j) e =
         ap (query_held s (u ++ v) (t ++ v') a j) (held_behind u t v v' s a j (found_room good a j e)) ∙ shown_behind j (held_in s u t a j)
 
     query_behind : query_turn s (u ++ v) (t ++ v') a ≡ behind (query_turn s u t a) v v'
@@ -85,7 +82,7 @@ module _ (s : State) (u t v v' : List ℕ) (z : Sized s) (room : s.slots * s.w �
         (λ good. queried_behind good (lookup s a) refl)
 
     -- ---- release
-    freed_behind : Good → (j : ℕ) → lookup s a ≡ slot_at j → (i e : ℕ) → release_units s (u ++ v) (t ++ v') a j i e ≡ behind (release_units s u t a j i e) v v'
+    freed_behind : Good → (j : ℕ) → lookup s a ≡ Some j → (i e : ℕ) → release_units s (u ++ v) (t ++ v') a j i e ≡ behind (release_units s u t a j i e) v v'
     freed_behind good j f i e =
         let w = s.w in
         let slot = (block_at s j).slot in
@@ -101,15 +98,15 @@ module _ (s : State) (u t v v' : List ℕ) (z : Sized s) (room : s.slots * s.w �
         ap₂ (λ (p q : List ℕ). settle answer x p q j) (fill_behind w slot u v r.0 i (e - i) 0) (fill_behind w slot t v' r.1 (e - 1) 1 0)
         ∙ settle_behind m.used m.stop v v' answer x j (subst (λ (k : ℕ). Room m.used m.stop v v' w k) (sym same) kept)
 
-    released_behind : Good → (j : ℕ) → lookup s a ≡ slot_at j → (h : Held) → release_held s (u ++ v) (t ++ v') a j h ≡ behind (release_held s u t a j h) v v'
+    released_behind : Good → (j : ℕ) → lookup s a ≡ Some j → (h : Held) → release_held s (u ++ v) (t ++ v') a j h ≡ behind (release_held s u t a j h) v v'
     released_behind good j f NoSpan = refl
     released_behind good j f NoStop = refl
     released_behind good j f (Range i e) =
         pick_behind v v' (ltb (block_at s j).used (e - i) || eqb s.live 0) _ _ (refuse Damaged s u t) (release_units s u t a j i e) refl (freed_behind good j f i e)
 
-    given_back_behind : Good → (f : Found) → lookup s a ≡ f → release_found s (u ++ v) (t ++ v') a f ≡ behind (release_found s u t a f) v v'
-    given_back_behind good Nothing e = refl
-    given_back_behind good (slot_at j) e =
+    given_back_behind : Good → (f : Option ℕ) → lookup s a ≡ f → release_found s (u ++ v) (t ++ v') a f ≡ behind (release_found s u t a f) v v'
+    given_back_behind good None e = refl
+    given_back_behind good (Some j) e =
         ap (release_held s (u ++ v) (t ++ v') a j) (held_behind u t v v' s a j (found_room good a j e)) ∙ released_behind good j e (held_in s u t a j)
 
     release_behind : release_turn s (u ++ v) (t ++ v') a ≡ behind (release_turn s u t a) v v'
@@ -120,22 +117,22 @@ module _ (s : State) (u t v v' : List ℕ) (z : Sized s) (room : s.slots * s.w �
 
     -- ---- shrink
     module _ (size : ℕ) where
-      units_behind : Good → (j : ℕ) → lookup s a ≡ slot_at j → (i e n : ℕ) → shrink_units s (u ++ v) (t ++ v') a j i e n ≡ behind (shrink_units s u t a j i e n) v v'
+      units_behind : Good → (j : ℕ) → lookup s a ≡ Some j → (i e n : ℕ) → shrink_units s (u ++ v) (t ++ v') a j i e n ≡ behind (shrink_units s u t a j i e n) v v'
       units_behind good j f i e n =
           pick_behind v v' (ltb (e - i) n) _ _ (refuse InvalidState s u t) _ refl
           (pick_behind v v' (eqb n (e - i)) _ _ (turn (Shrunk (span a (bytes_of n (unit_of s (block_at s j))))) s u t) (shrink_tail s u t a j i e n) refl
           (cut_behind u t v v' s a j i e n (found_room good a j f)))
 
-      shrunk_behind : Good → (j : ℕ) → lookup s a ≡ slot_at j → (h : Held) → shrink_held s (u ++ v) (t ++ v') a size j h ≡ behind (shrink_held s u t a size j h) v v'
+      shrunk_behind : Good → (j : ℕ) → lookup s a ≡ Some j → (h : Held) → shrink_held s (u ++ v) (t ++ v') a size j h ≡ behind (shrink_held s u t a size j h) v v'
       shrunk_behind good j f NoSpan = refl
       shrunk_behind good j f NoStop = refl
       shrunk_behind good j f (Range i e) =
           let n = units_of size (unit_of s (block_at s j)) in
           pick_behind v v' (ltb (block_at s j).used (e - i)) _ _ (refuse Damaged s u t) (shrink_units s u t a j i e n) refl (units_behind good j f i e n)
 
-      cut_down_behind : Good → (f : Found) → lookup s a ≡ f → shrink_found s (u ++ v) (t ++ v') a size f ≡ behind (shrink_found s u t a size f) v v'
-      cut_down_behind good Nothing e = refl
-      cut_down_behind good (slot_at j) e =
+      cut_down_behind : Good → (f : Option ℕ) → lookup s a ≡ f → shrink_found s (u ++ v) (t ++ v') a size f ≡ behind (shrink_found s u t a size f) v v'
+      cut_down_behind good None e = refl
+      cut_down_behind good (Some j) e =
           ap (shrink_held s (u ++ v) (t ++ v') a size j) (held_behind u t v v' s a j (found_room good a j e)) ∙ shrunk_behind good j e (held_in s u t a j)
 
       shrink_behind : shrink_turn s (u ++ v) (t ++ v') a size ≡ behind (shrink_turn s u t a size) v v'
@@ -171,14 +168,14 @@ module _ (s : State) (u t v v' : List ℕ) (z : Sized s) (room : s.slots * s.w �
     slot_lies : (slot : ℕ) → slot < r.slots → Room u t v v' r.w slot
     slot_lies slot h = slot_room r (length u) (length t) left.shaped slot h
 
-    placed_behind : (b : ℕ) (x : Place) (f : Found) → lowest_slot r ≡ f → alloc_placed r (u ++ v) (t ++ v') p n b x f ≡ behind (alloc_placed r u t p n b x f) v v'
-    placed_behind b (Base at) (slot_at slot) e =
+    placed_behind : (b : ℕ) (x : Option ℕ) (f : Option ℕ) → lowest_slot r ≡ f → alloc_placed r (u ++ v) (t ++ v') p n b x f ≡ behind (alloc_placed r u t p n b x f) v v'
+    placed_behind b (Some at) (Some slot) e =
         let c = slot_is r slot (sym e) in
         let few = room_left r (length u) (length t) left.shaped slot c.0 c.1 in
         pick_behind v v' (leb (units_of (units_of b (pool_at r p).granularity) 32) r.w) _ _ (alloc_made r u t p n b at slot) (refuse NoMapping r u t)
         (make_behind u t v v' r p n b at slot (sized_search s z u p n) (omega (arith, few, left.shaped.head.slots_high)) (slot_lies slot c.0)) refl
-    placed_behind b (Base at) Nothing e = refl
-    placed_behind b noPlace f e = refl
+    placed_behind b (Some at) None e = refl
+    placed_behind b None f e = refl
 
     searched_behind : (h : Hit) → (search_for s u bytes).hit ≡ h → alloc_searched r (u ++ v) (t ++ v') p n bytes h ≡ behind (alloc_searched r u t p n bytes h) v v'
     searched_behind (At j i) e =

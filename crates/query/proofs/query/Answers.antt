@@ -1,5 +1,6 @@
 -- Each branch is the branch of `query_turn` with the same test: the shape, the lookup, and what `held_in` found. A good shape gives what the
 -- callees require; the block found holds the address (`found_in`), and the units found lie in it (`held_in_range`). Assumes nothing.
+use Rattle.std.specs.Prelude.{Option}
 use Rattle.state.specs.declared.Answer.TheVariants.{Shown}
 use Rattle.state.specs.declared.Held.TheVariants.{NoSpan, NoStop, Range}
 use Rattle.state.specs.declared.Span.{Span}
@@ -9,7 +10,6 @@ use mathlib.Core.Bool.{true, false}
 use mathlib.Core.Path.{◌≡◌, sym, ap, ◌∙◌}
 use native.Mathlib.Omega.{arith}
 use lib.ListN.{length}
-use Rattle.state.specs.declared.Found.{Found}
 use Rattle.state.specs.declared.Held.{Held}
 use Rattle.state.specs.Table.{block_at}
 use Rattle.state.specs.Shape.{good_shape}
@@ -18,7 +18,7 @@ use Rattle.shape.specs.Shaped.{Shaped}
 use Rattle.shape.proofs.Shaped.{shaped_is}
 use Rattle.machine.specs.Span.{query_held, query_found, query_turn}
 use Rattle.shape_facts.proofs.Facts.{ordered, askable, found_in, held_in_range, spannable}
-use Rattle.query.proofs.query.Goals.{After-held_in-held, Else-not-shape_ok, In-At}
+use Rattle.query.proofs.query.Goals.{After-held_in-held, Else-not-shape_ok, In-Some}
 use Rattle.query.proofs.query.Goals as goal
 
 -- the state has its shape
@@ -35,27 +35,27 @@ looked c =
     rw e
 
 -- the block that was found holds the address
-here : (c : In-At) → let a = c.args in
-    let j = c.in-At.j in
+here : (c : In-Some) → let a = c.args in
+    let j = c.in-Some.j in
     (j < a.s.count) × (holds (block_at a.s j) a.address ≡ true)
-here c = let a = c.args in found_in a.s a.address c.in-At.j (sym c.in-At.is ∙ c.lookup_block-found.ensures)
+here c = let a = c.args in found_in a.s a.address c.in-Some.j (sym c.in-Some.is ∙ c.lookup_block-found.ensures)
 
 -- and by what stands there
 shown : (c : After-held_in-held) (r : Held) → c.held_in-held.result ≡ r → let a = c.args in
     query_found a.s a.used.now a.stop.now a.address (lookup a.s a.address) ≡ query_turn a.s a.used.now a.stop.now a.address
-    → (query_held a.s a.used.now a.stop.now a.address c.in-At.j r).answer ≡ (query_turn a.s a.used.now a.stop.now a.address).answer
+    → (query_held a.s a.used.now a.stop.now a.address c.in-Some.j r).answer ≡ (query_turn a.s a.used.now a.stop.now a.address).answer
 shown c r e q =
     let a = c.args in
-    ap (λ (h : Held). (query_held a.s a.used.now a.stop.now a.address c.in-At.j h).answer) (sym e ∙ c.held_in-held.ensures)
-    ∙ ap (λ (f : Found). (query_found a.s a.used.now a.stop.now a.address f).answer) (sym c.in-At.is ∙ c.lookup_block-found.ensures)
+    ap (λ (h : Held). (query_held a.s a.used.now a.stop.now a.address c.in-Some.j h).answer) (sym e ∙ c.held_in-held.ensures)
+    ∙ ap (λ (f : Option ℕ). (query_found a.s a.used.now a.stop.now a.address f).answer) (sym c.in-Some.is ∙ c.lookup_block-found.ensures)
     ∙ ap (λ (r : Turn). r.answer) q
 
 -- its units
 range : (c : After-held_in-held) (from to : ℕ) → c.held_in-held.result ≡ Range from to → let a = c.args in
-    (from < to) × (to ≤ (block_at a.s c.in-At.j).area)
+    (from < to) × (to ≤ (block_at a.s c.in-Some.j).area)
 range c from to e =
     let a = c.args in
-    let b = block_at a.s c.in-At.j in
+    let b = block_at a.s c.in-Some.j in
     held_in_range a.s.w b (unit_of a.s b) a.used.now a.stop.now a.address from to (sym c.held_in-held.ensures ∙ e)
 
 pub returns-then-not-shape_ok : goal.returns-then-not-shape_ok
@@ -71,13 +71,13 @@ lookup_block-found-requires c = let a = c.args in ordered a.s (length a.used.now
 pub returns-in_default : goal.returns-in_default
 returns-in_default c =
     let a = c.args in
-    ap (λ (f : Found). (query_found a.s a.used.now a.stop.now a.address f).answer) (sym c.in_default.is ∙ c.lookup_block-found.ensures)
+    ap (λ (f : Option ℕ). (query_found a.s a.used.now a.stop.now a.address f).answer) (sym c.in_default.is ∙ c.lookup_block-found.ensures)
     ∙ ap (λ (r : Turn). r.answer) (looked (goal.at.returns-in_default c).Else-not-shape_ok)
 
 pub held_in-held-requires : goal.held_in-held-requires
 held_in-held-requires c =
     let a = c.args in
-    askable a.s (length a.used.now) (length a.stop.now) (shaped (goal.at.held_in-held-requires c).Else-not-shape_ok) c.in-At.j a.address (here (goal.at.held_in-held-requires c).In-At).0 (here (goal.at.held_in-held-requires c).In-At).1
+    askable a.s (length a.used.now) (length a.stop.now) (shaped (goal.at.held_in-held-requires c).Else-not-shape_ok) c.in-Some.j a.address (here (goal.at.held_in-held-requires c).In-Some).0 (here (goal.at.held_in-held-requires c).In-Some).1
 
 pub overflow_sub-to : goal.overflow_sub-to
 overflow_sub-to c = omega (arith, (range (goal.at.overflow_sub-to c).After-held_in-held c.in-Range.from c.in-Range.to c.in-Range.is).0)
@@ -97,5 +97,5 @@ pub span_at-requires : goal.span_at-requires
 span_at-requires c =
     let a = c.args in
     let g = c.in-Range in
-    spannable a.s (length a.used.now) (length a.stop.now) (shaped (goal.at.span_at-requires c).Else-not-shape_ok) c.in-At.j (here (goal.at.span_at-requires c).In-At).0 (g.to - g.from)
+    spannable a.s (length a.used.now) (length a.stop.now) (shaped (goal.at.span_at-requires c).Else-not-shape_ok) c.in-Some.j (here (goal.at.span_at-requires c).In-Some).0 (g.to - g.from)
     (omega (arith, (range (goal.at.span_at-requires c).After-held_in-held g.from g.to g.is).1))

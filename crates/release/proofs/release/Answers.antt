@@ -1,5 +1,6 @@
 -- Each branch is the branch of `release_turn` with the same test: the shape, address 0, the lookup, and what `held_in` found. A good shape
 -- gives what the callees require, and the units found lie in the block (`held_in_range`). Assumes nothing.
+use Rattle.std.specs.Prelude.{Option, Some}
 use Prim.Native.Nat.{ℕ, ◌<◌}
 use mathlib.Core.Bool.{true, false}
 use mathlib.Core.List.{List}
@@ -8,8 +9,6 @@ use borrow.Author.Tests.{eq-eqb, ne_eqb}
 use lib.ListN.{length}
 use Rattle.state.specs.declared.Outcome.{Outcome}
 use Rattle.state.specs.declared.State.{State}
-use Rattle.state.specs.declared.Found.{Found}
-use Rattle.state.specs.declared.Found.TheVariants.{At}
 use Rattle.state.specs.declared.Held.{Held}
 use Rattle.state.specs.declared.Held.TheVariants.{NoSpan, NoStop, Range}
 use Rattle.state.specs.Table.{block_at}
@@ -21,7 +20,7 @@ use Rattle.machine.specs.Span.{held_in}
 use Rattle.machine.specs.Turn.{turn, unit_of}
 use Rattle.machine.specs.Release.{release_held, release_found, release_turn}
 use Rattle.shape_facts.proofs.Facts.{ordered, askable, found_in, held_in_range}
-use Rattle.release.proofs.release.Goals.{Else-not-shape_ok, In-At}
+use Rattle.release.proofs.release.Goals.{Else-not-shape_ok, In-Some}
 use Rattle.release.proofs.release.Goals as goal
 
 -- the state has its shape
@@ -38,14 +37,14 @@ module _ (s : State) (u t : List ℕ) (a : ℕ) (shape : good_shape s (length u)
   looked = rw (shape, ne_eqb a 0 some)
 
   -- and by what stands there
-  shown : (j : ℕ) (r : Held) → At j ≡ lookup s a → r ≡ held_in s u t a j → release_held s u t a j r ≡ release_turn s u t a
-  shown j r q e = ap (λ (h : Held). release_held s u t a j h) e ∙ ap (λ (f : Found). release_found s u t a f) q ∙ looked
+  shown : (j : ℕ) (r : Held) → Some j ≡ lookup s a → r ≡ held_in s u t a j → release_held s u t a j r ≡ release_turn s u t a
+  shown j r q e = ap (λ (h : Held). release_held s u t a j h) e ∙ ap (λ (f : Option ℕ). release_found s u t a f) q ∙ looked
 
 -- the block that was found holds the address
-here : (c : In-At) → let a = c.args in
-    let j = c.in-At.j in
+here : (c : In-Some) → let a = c.args in
+    let j = c.in-Some.j in
     (j < a.s.count) × (holds (block_at a.s j) a.address ≡ true)
-here c = let a = c.args in found_in a.s a.address c.in-At.j (sym c.in-At.is ∙ c.lookup_block-found.ensures)
+here c = let a = c.args in found_in a.s a.address c.in-Some.j (sym c.in-Some.is ∙ c.lookup_block-found.ensures)
 
 pub returns-then-not-shape_ok : goal.returns-then-not-shape_ok
 unfolding release_turn
@@ -68,23 +67,23 @@ pub returns-in_default : goal.returns-in_default
 returns-in_default c =
     let a = c.args in
     ap (λ (o : Outcome). turn o.answer o.state a.used.now a.stop.now) c.refused-in_default.ensures
-    ∙ ap (λ (f : Found). release_found a.s a.used.now a.stop.now a.address f) (sym c.in_default.is ∙ c.lookup_block-found.ensures)
+    ∙ ap (λ (f : Option ℕ). release_found a.s a.used.now a.stop.now a.address f) (sym c.in_default.is ∙ c.lookup_block-found.ensures)
     ∙ looked a.s a.used.now a.stop.now a.address (good (goal.at.returns-in_default c).Else-not-shape_ok) c.if-address-eq0.false
 
 pub held_in-held-requires : goal.held_in-held-requires
 held_in-held-requires c =
     let a = c.args in
     let p = goal.at.held_in-held-requires c in
-    askable a.s (length a.used.now) (length a.stop.now) (shaped p.Else-not-shape_ok) c.in-At.j a.address (here p.In-At).0 (here p.In-At).1
+    askable a.s (length a.used.now) (length a.stop.now) (shaped p.Else-not-shape_ok) c.in-Some.j a.address (here p.In-Some).0 (here p.In-Some).1
 
 -- the units found lie in the block
 pub release_span-requires : goal.release_span-requires
 release_span-requires c =
     let a = c.args in
-    let b = block_at a.s c.in-At.j in
+    let b = block_at a.s c.in-Some.j in
     let p = goal.at.release_span-requires c in (
       shaped p.Else-not-shape_ok,
-      (here p.In-At).0,
+      (here p.In-Some).0,
       held_in_range a.s.w b (unit_of a.s b) a.used.now a.stop.now a.address c.in-Range.from c.in-Range.to (sym c.held_in-held.ensures ∙ c.in-Range.is),
     )
 
@@ -92,19 +91,19 @@ pub returns-in-NoSpan : goal.returns-in-NoSpan
 returns-in-NoSpan c =
     let a = c.args in
     ap (λ (o : Outcome). turn o.answer o.state a.used.now a.stop.now) c.refused-in-NoSpan.ensures
-    ∙ shown a.s a.used.now a.stop.now a.address (good (goal.at.returns-in-NoSpan c).Else-not-shape_ok) c.if-address-eq0.false c.in-At.j NoSpan
-    (sym c.in-At.is ∙ c.lookup_block-found.ensures) (sym c.in-NoSpan.is ∙ c.held_in-held.ensures)
+    ∙ shown a.s a.used.now a.stop.now a.address (good (goal.at.returns-in-NoSpan c).Else-not-shape_ok) c.if-address-eq0.false c.in-Some.j NoSpan
+    (sym c.in-Some.is ∙ c.lookup_block-found.ensures) (sym c.in-NoSpan.is ∙ c.held_in-held.ensures)
 
 pub returns-in-NoStop : goal.returns-in-NoStop
 returns-in-NoStop c =
     let a = c.args in
     ap (λ (o : Outcome). turn o.answer o.state a.used.now a.stop.now) c.refused-in-NoStop.ensures
-    ∙ shown a.s a.used.now a.stop.now a.address (good (goal.at.returns-in-NoStop c).Else-not-shape_ok) c.if-address-eq0.false c.in-At.j NoStop
-    (sym c.in-At.is ∙ c.lookup_block-found.ensures) (sym c.in-NoStop.is ∙ c.held_in-held.ensures)
+    ∙ shown a.s a.used.now a.stop.now a.address (good (goal.at.returns-in-NoStop c).Else-not-shape_ok) c.if-address-eq0.false c.in-Some.j NoStop
+    (sym c.in-Some.is ∙ c.lookup_block-found.ensures) (sym c.in-NoStop.is ∙ c.held_in-held.ensures)
 
 pub returns-in-Range : goal.returns-in-Range
 returns-in-Range c =
     let a = c.args in
     c.release_span.ensures
-    ∙ shown a.s a.used.now a.stop.now a.address (good (goal.at.returns-in-Range c).Else-not-shape_ok) c.if-address-eq0.false c.in-At.j (Range c.in-Range.from c.in-Range.to)
-    (sym c.in-At.is ∙ c.lookup_block-found.ensures) (sym c.in-Range.is ∙ c.held_in-held.ensures)
+    ∙ shown a.s a.used.now a.stop.now a.address (good (goal.at.returns-in-Range c).Else-not-shape_ok) c.if-address-eq0.false c.in-Some.j (Range c.in-Range.from c.in-Range.to)
+    (sym c.in-Some.is ∙ c.lookup_block-found.ensures) (sym c.in-Range.is ∙ c.held_in-held.ensures)

@@ -1,5 +1,6 @@
 -- A size of 0 is a release in the rule too (`shrink_none`). Otherwise each branch is the branch of `shrink_turn` with the same test: the
 -- shape, address 0, the lookup, what `held_in` found, and the used count. A good shape gives what the callees require. Assumes nothing.
+use Rattle.std.specs.Prelude.{Option, Some}
 use Prim.Native.Nat.{ℕ, ◌-◌, ◌<◌}
 use mathlib.Core.Bool.{true, false}
 use mathlib.Core.List.{List}
@@ -10,8 +11,6 @@ use lib.ListN.{length}
 use Rattle.block.specs.declared.Block.{Block}
 use Rattle.state.specs.declared.Outcome.{Outcome}
 use Rattle.state.specs.declared.State.{State}
-use Rattle.state.specs.declared.Found.{Found}
-use Rattle.state.specs.declared.Found.TheVariants.{At}
 use Rattle.state.specs.declared.Held.{Held}
 use Rattle.state.specs.declared.Held.TheVariants.{NoSpan, NoStop, Range}
 use Rattle.state.specs.Table.{block_at}
@@ -24,7 +23,7 @@ use Rattle.machine.specs.Turn.{turn, unit_of}
 use Rattle.machine.specs.Shrink.{shrink_held, shrink_found, shrink_turn}
 use Rattle.shape_facts.proofs.Facts.{count_64, ordered, askable, found_in, held_in_range}
 use Rattle.shrink.proofs.Cases.{shrunk_damaged, shrunk_units, shrink_none}
-use Rattle.shrink.proofs.shrink.Goals.{After-block_at-b, Else-not-shape_ok, In-At}
+use Rattle.shrink.proofs.shrink.Goals.{After-block_at-b, Else-not-shape_ok, In-Some}
 use Rattle.shrink.proofs.shrink.Goals as goal
 
 -- the state has its shape
@@ -41,16 +40,16 @@ module _ (s : State) (u t : List ℕ) (a size : ℕ) (bytes : size ≡ 0 → ⊥
   looked = rw (ne_eqb size 0 bytes, shape, ne_eqb a 0 some)
 
   -- and by what stands there
-  shown : (j : ℕ) (r : Held) → At j ≡ lookup s a → r ≡ held_in s u t a j → shrink_held s u t a size j r ≡ shrink_turn s u t a size
-  shown j r q e = ap (λ (h : Held). shrink_held s u t a size j h) e ∙ ap (λ (f : Found). shrink_found s u t a size f) q ∙ looked
+  shown : (j : ℕ) (r : Held) → Some j ≡ lookup s a → r ≡ held_in s u t a j → shrink_held s u t a size j r ≡ shrink_turn s u t a size
+  shown j r q e = ap (λ (h : Held). shrink_held s u t a size j h) e ∙ ap (λ (f : Option ℕ). shrink_found s u t a size f) q ∙ looked
 
 -- the block that was found holds the address
-here : (c : In-At) → let a = c.args in
-    let j = c.in-At.j in
+here : (c : In-Some) → let a = c.args in
+    let j = c.in-Some.j in
     (j < a.s.count) × (holds (block_at a.s j) a.address ≡ true)
-here c = let a = c.args in found_in a.s a.address c.in-At.j (sym c.in-At.is ∙ c.lookup_block-found.ensures)
+here c = let a = c.args in found_in a.s a.address c.in-Some.j (sym c.in-Some.is ∙ c.lookup_block-found.ensures)
 
-used_is : (c : After-block_at-b) → c.block_at-b.result.used ≡ (block_at c.args.s c.in-At.j).used
+used_is : (c : After-block_at-b) → c.block_at-b.result.used ≡ (block_at c.args.s c.in-Some.j).used
 used_is c = ap (λ (b : Block). b.used) c.block_at-b.ensures
 
 pub returns-then-size-eq0 : goal.returns-then-size-eq0
@@ -78,35 +77,35 @@ pub returns-in_default : goal.returns-in_default
 returns-in_default c =
     let a = c.args in
     ap (λ (o : Outcome). turn o.answer o.state a.used.now a.stop.now) c.refused-in_default.ensures
-    ∙ ap (λ (f : Found). shrink_found a.s a.used.now a.stop.now a.address a.size f) (sym c.in_default.is ∙ c.lookup_block-found.ensures)
+    ∙ ap (λ (f : Option ℕ). shrink_found a.s a.used.now a.stop.now a.address a.size f) (sym c.in_default.is ∙ c.lookup_block-found.ensures)
     ∙ looked a.s a.used.now a.stop.now a.address a.size c.if-size-eq0.false (good (goal.at.returns-in_default c).Else-not-shape_ok) c.if-address-eq0.false
 
 pub held_in-held-requires : goal.held_in-held-requires
 held_in-held-requires c =
     let a = c.args in
     let p = goal.at.held_in-held-requires c in
-    askable a.s (length a.used.now) (length a.stop.now) (shaped p.Else-not-shape_ok) c.in-At.j a.address (here p.In-At).0 (here p.In-At).1
+    askable a.s (length a.used.now) (length a.stop.now) (shaped p.Else-not-shape_ok) c.in-Some.j a.address (here p.In-Some).0 (here p.In-Some).1
 
 pub block_at-b-requires : goal.block_at-b-requires
 block_at-b-requires c =
     let a = c.args in
     let p = goal.at.block_at-b-requires c in
-    omega (arith, (here p.In-At).0, count_64 a.s (length a.used.now) (length a.stop.now) (shaped p.Else-not-shape_ok))
+    omega (arith, (here p.In-Some).0, count_64 a.s (length a.used.now) (length a.stop.now) (shaped p.Else-not-shape_ok))
 
 -- the units found lie in the block
 pub overflow_sub-to : goal.overflow_sub-to
 overflow_sub-to c =
     let a = c.args in
-    let b = block_at a.s c.in-At.j in
+    let b = block_at a.s c.in-Some.j in
     omega (arith, (held_in_range a.s.w b (unit_of a.s b) a.used.now a.stop.now a.address c.in-Range.from c.in-Range.to (sym c.held_in-held.ensures ∙ c.in-Range.is)).0)
 
 pub shrink_span-requires-clause-shaped : goal.shrink_span-requires-clause-shaped
 shrink_span-requires-clause-shaped c =
     let a = c.args in
-    let b = block_at a.s c.in-At.j in
+    let b = block_at a.s c.in-Some.j in
     let p = goal.at.shrink_span-requires-clause-shaped c in (
       shaped p.Else-not-shape_ok,
-      (here p.In-At).0,
+      (here p.In-Some).0,
       held_in_range a.s.w b (unit_of a.s b) a.used.now a.stop.now a.address c.in-Range.from c.in-Range.to (sym c.held_in-held.ensures ∙ c.in-Range.is),
     )
 
@@ -114,34 +113,34 @@ pub returns-in-NoSpan : goal.returns-in-NoSpan
 returns-in-NoSpan c =
     let a = c.args in
     ap (λ (o : Outcome). turn o.answer o.state a.used.now a.stop.now) c.refused-in-NoSpan.ensures
-    ∙ shown a.s a.used.now a.stop.now a.address a.size c.if-size-eq0.false (good (goal.at.returns-in-NoSpan c).Else-not-shape_ok) c.if-address-eq0.false c.in-At.j NoSpan
-    (sym c.in-At.is ∙ c.lookup_block-found.ensures) (sym c.in-NoSpan.is ∙ c.held_in-held.ensures)
+    ∙ shown a.s a.used.now a.stop.now a.address a.size c.if-size-eq0.false (good (goal.at.returns-in-NoSpan c).Else-not-shape_ok) c.if-address-eq0.false c.in-Some.j NoSpan
+    (sym c.in-Some.is ∙ c.lookup_block-found.ensures) (sym c.in-NoSpan.is ∙ c.held_in-held.ensures)
 
 pub returns-in-NoStop : goal.returns-in-NoStop
 returns-in-NoStop c =
     let a = c.args in
     ap (λ (o : Outcome). turn o.answer o.state a.used.now a.stop.now) c.refused-in-NoStop.ensures
-    ∙ shown a.s a.used.now a.stop.now a.address a.size c.if-size-eq0.false (good (goal.at.returns-in-NoStop c).Else-not-shape_ok) c.if-address-eq0.false c.in-At.j NoStop
-    (sym c.in-At.is ∙ c.lookup_block-found.ensures) (sym c.in-NoStop.is ∙ c.held_in-held.ensures)
+    ∙ shown a.s a.used.now a.stop.now a.address a.size c.if-size-eq0.false (good (goal.at.returns-in-NoStop c).Else-not-shape_ok) c.if-address-eq0.false c.in-Some.j NoStop
+    (sym c.in-Some.is ∙ c.lookup_block-found.ensures) (sym c.in-NoStop.is ∙ c.held_in-held.ensures)
 
 pub returns-then-b-to : goal.returns-then-b-to
 returns-then-b-to c =
     let a = c.args in
-    let j = c.in-At.j in
+    let j = c.in-Some.j in
     let g = c.in-Range in
     let p = goal.at.returns-then-b-to c in
     ap (λ (o : Outcome). turn o.answer o.state a.used.now a.stop.now) c.refused-then-b-to.ensures
     ∙ shrunk_damaged a.s a.used.now a.stop.now a.address a.size j g.from g.to (lt-ltb (block_at a.s j).used (g.to - g.from) (omega (arith, c.if-b-to.true, used_is p.After-block_at-b)))
     ∙ shown a.s a.used.now a.stop.now a.address a.size c.if-size-eq0.false (good p.Else-not-shape_ok) c.if-address-eq0.false j (Range g.from g.to)
-    (sym c.in-At.is ∙ c.lookup_block-found.ensures) (sym g.is ∙ c.held_in-held.ensures)
+    (sym c.in-Some.is ∙ c.lookup_block-found.ensures) (sym g.is ∙ c.held_in-held.ensures)
 
 pub returns-in-Range : goal.returns-in-Range
 returns-in-Range c =
     let a = c.args in
-    let j = c.in-At.j in
+    let j = c.in-Some.j in
     let g = c.in-Range in
     let p = goal.at.returns-in-Range c in
     c.shrink_span.ensures
     ∙ shrunk_units a.s a.used.now a.stop.now a.address a.size j g.from g.to (le-ltb (block_at a.s j).used (g.to - g.from) (omega (arith, c.if-b-to.false, used_is p.After-block_at-b)))
     ∙ shown a.s a.used.now a.stop.now a.address a.size c.if-size-eq0.false (good p.Else-not-shape_ok) c.if-address-eq0.false j (Range g.from g.to)
-    (sym c.in-At.is ∙ c.lookup_block-found.ensures) (sym g.is ∙ c.held_in-held.ensures)
+    (sym c.in-Some.is ∙ c.lookup_block-found.ensures) (sym g.is ∙ c.held_in-held.ensures)
