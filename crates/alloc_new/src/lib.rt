@@ -37,12 +37,10 @@ pub fn new_span(
     requires { Makes s (length used.old) (length stop.old) p n bytes }
     ensures { turn_of result used.new stop.new ≡ alloc_new s used.old stop.old p n bytes }
 {
-    let place = table::lowest_place(s, bytes);
-    let Some(at) = place else {
+    let Some(at) = table::lowest_place(s, bytes) else {
         return state::refused(s, Refusal::NoMapping);
     };
-    let slot = table::lowest_free_slot(s);
-    let Some(k) = slot else {
+    let Some(slot) = table::lowest_free_slot(s) else {
         return state::refused(s, Refusal::NoMapping);
     };
     let q = state::pool_at(s, p);
@@ -51,6 +49,6 @@ pub fn new_span(
     if s.w < words as usize {
         return state::refused(s, Refusal::NoMapping);
     }
-    let b = block::new_block(at, bytes, p, k, area, n);
+    let b = block::new_block(at, bytes, p, slot, area, n);
     make_span(s, used, stop, b, n)
 }

@@ -23,10 +23,10 @@ pub make_span-requires : goal.make_span-requires
 make_span-requires c =
     let a = c.args in
     let at = c.in-Some.at in
-    let k = c.in-Some.k in
+    let k = c.in-Some-lowest_free_slot.slot in
     let units = area (goal.at.make_span-requires c).After-area_size_from_byte_size-area in
     let words = c.area_size_from_byte_size-words.ensures ∙ ap (λ (x : ℕ). units_of x 32) units in
     let b = c.new_block-b.ensures ∙ ap (λ (x : ℕ). fresh at a.bytes a.p k x a.n) units in
     subst (λ (x : Block). Makeable a.s (length a.used.now) (length a.stop.now) x a.n) (sym b)
-    (makeable a.s (length a.used.now) (length a.stop.now) a.p a.n a.bytes c.requires at k (sym c.in-Some.is ∙ c.lowest_place-place.ensures) (sym c.in-Some.is ∙ c.lowest_free_slot-slot.ensures)
+    (makeable a.s (length a.used.now) (length a.stop.now) a.p a.n a.bytes c.requires at k (sym c.in-Some.is ∙ c.lowest_place.ensures) (sym c.in-Some-lowest_free_slot.is ∙ c.lowest_free_slot.ensures)
     (omega (arith, words, c.if-s-words.false)) (blocks_64 a.s _ c.well_formed.0) (order_64 a.s _ c.well_formed.0) (pool_3 a.s _ c.well_formed.0))
