@@ -1,5 +1,7 @@
 -- The slots that standing blocks have, one block after the other. Assumes nothing.
-use Rattle.std.specs.Prelude.{Some, None}
+use Rattle.std.specs.Prelude.{Option, Some, None, MatchOption, slice_index_or}
+use Rattle.std.specs.List.{AllWithin, HoldsAt}
+use Rattle.std.proofs.lemmas.List.{get_or-take, length-take-le}
 use Prim.Native.Nat.{ℕ, zero, suc, ◌+◌, ◌≤◌, ◌<◌}
 use mathlib.Core.Bool.{Bool, true, false, not}
 use mathlib.Core.List.{List}
@@ -7,7 +9,7 @@ use mathlib.Core.Path.{◌≡◌, refl, sym, ap, ◌∙◌}
 use native.Mathlib.Omega.{arith}
 use borrow.Author.Tests.{eq-eqb, ne_eqb, not-true, not-false}
 use lib.Dec.{eqb}
-use lib.ListN.{get_or, set, replicate, length-set}
+use lib.ListN.{get_or, set, replicate, length, take, length-set}
 use lib.Seq.{get_or-set_same, get_or-set_other}
 use Rattle.numbers.proofs.Bools.{and_true}
 use Rattle.numbers.proofs.Split.{by_eq}
@@ -43,16 +45,29 @@ taken_more s i taken t h = record {
       get_or-set_other taken (block_at s i).slot k true false ne ∙ t.says k l ∙ sym (ap not same));
 }
 
+-- ---- the first slot in force that no block has, as a search of `taken` finds it
+abbrev pub Free : Bool → Type 0
+Free b = b ≡ false
+
+abbrev pub Taken : Bool → Type 0
+Taken b = b ≡ true
+
 module _ (s : State) (taken : List Bool) (t : TakenSlots s s.count taken) (few : s.slots ≤ 64) where
-  pub slot_free_lem : (k : ℕ) → k < s.slots → get_or taken k false ≡ false → slot_free s k ≡ true
-  slot_free_lem k h e = not-false (slot_free s k) (sym (t.says k (omega arith)) ∙ e)
+  says : (k : ℕ) → k < s.slots → slice_index_or (take s.slots taken) k false ≡ not (slot_free s k)
+  says k h = get_or-take s.slots taken k false h ∙ t.says k (omega arith)
 
-  pub slot_taken : (k : ℕ) → k < s.slots → get_or taken k false ≡ true → slot_free s k ≡ false
-  slot_taken k h e = not-true (slot_free s k) (sym (t.says k (omega arith)) ∙ e)
+  inside : length (take s.slots taken) ≡ s.slots
+  inside = length-take-le s.slots taken (omega (arith, t.size))
 
-  pub slot_here : (k : ℕ) → k < s.slots → ((j : ℕ) → j < k → slot_free s j ≡ false) → get_or taken k false ≡ false → Some k ≡ lowest_slot s
-  slot_here k h f e =
-      least_only s.slots (slot_free s) (Some k) (record { low = omega arith; high = h; passes = slot_free_lem k h e; before = λ j x l. f j l })
-
-  pub slot_none : ((j : ℕ) → j < s.slots → slot_free s j ≡ false) → None ≡ lowest_slot s
-  slot_none f = least_only s.slots (slot_free s) None (λ j x l. f j l)
+  pub first_free : (r : Option ℕ) → MatchOption r (AllWithin Taken (take s.slots taken) 0 (length (take s.slots taken)))
+      (λ k. (k < length (take s.slots taken)) × HoldsAt Free (take s.slots taken) k × AllWithin Taken (take s.slots taken) 0 k) → r ≡ lowest_slot s
+  first_free None q =
+      least_only s.slots (slot_free s) None (λ j x h. not-true (slot_free s j) (sym (says j h) ∙ q j false x (omega (arith, inside))))
+  first_free (Some k) q =
+      let h : k < s.slots = omega (arith, inside, q.0) in
+      least_only s.slots (slot_free s) (Some k) (record {
+        low = omega arith;
+        high = h;
+        passes = not-false (slot_free s k) (sym (says k h) ∙ q.1 false);
+        before = λ j x l. not-true (slot_free s j) (sym (says j (omega arith)) ∙ q.2 j false x l);
+      })

@@ -65,14 +65,7 @@ pub fn lowest_free_slot(s: State) -> Option<usize>
     ensures { result ≡ lowest_slot s }
 {
     let taken = taken_slots(s);
-    let mut k: usize = 0;
-    while k < s.slots {
-        if !taken[k] {
-            return Some(k);
-        }
-        k += 1;
-    }
-    None
+    taken[..s.slots].iter().position(|&taken| !taken)
 }
 
 // Finds the lowest multiple of 65,536 in the arena where a block of `size` bytes fits: before the first block, in the first gap between
@@ -82,15 +75,12 @@ pub fn lowest_place(s: State, size: u64) -> Option<u64>
     ensures { result ≡ lowest_place s size }
 {
     let mut at = s.arena;
-    let mut k: usize = 0;
-    while k < s.count {
-        let i = s.order[k];
+    for &i in &s.order[..s.count] {
         let b = s.blocks[i];
         if at + size <= b.base {
             return Some(at);
         }
         at = numbers::align_up(b.base + b.size, sizes::PAGE);
-        k += 1;
     }
     if at + size <= s.arena + s.length {
         return Some(at);

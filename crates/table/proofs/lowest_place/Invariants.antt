@@ -1,10 +1,6 @@
-use Prim.Native.Nat.{◌-◌, ◌≤◌}
 use Rattle.table.specs.Ordered.{Arranged}
 use Rattle.table.proofs.Place.{Passed}
 use Rattle.table.proofs.lowest_place.Given as goal
 
-abbrev pub invariant-loop-k : goal.invariant-loop-k
-invariant-loop-k l = (l.k ≤ l.s.count) × ((r : Arranged l.s) → Passed l.s r l.size l.k l.at)
-
-abbrev pub decreases-loop-k : goal.decreases-loop-k
-decreases-loop-k l = l.s.count - l.k
+abbrev pub invariant-loop-i : goal.invariant-loop-i
+invariant-loop-i l = (r : Arranged l.fn.s) → Passed l.fn.s r l.fn.size l.i-index l.at
