@@ -1,5 +1,5 @@
 -- The machine's step, where the calls' own rules do not say it whole: creation keeps the state before it, a query changes nothing. Assumes nothing.
-use Rattle.std.specs.Prelude.{Option, Some, None}
+use Rattle.std.specs.Prelude.{Option, Some, None, Ok, Err}
 use Prim.Native.Nat.{ℕ}
 use mathlib.Core.Bool.{Bool, true, false}
 use mathlib.Core.List.{List, [], ◌∷◌}
@@ -12,8 +12,7 @@ use Rattle.state.specs.contracts.Answer.{the_type}
 use Rattle.numbers.specs.Pick.{pick}
 use lib.ListN.{length}
 use Rattle.state.specs.declared.State.{State}
-use Rattle.state.specs.declared.Held.{Held}
-use Rattle.state.specs.declared.Held.TheVariants.{NoSpan, NoStop, Range}
+use Rattle.state.specs.Held.{Held}
 use Rattle.state.specs.declared.Refusal.{Refusal}
 use Rattle.state.specs.declared.Refusal.TheVariants.{BadShape}
 use Rattle.state.specs.declared.Answer.{Answer}
@@ -43,9 +42,8 @@ granted_goes s x (Refused r) h = six h
 
 -- ---- a query
 still_held : (s : State) (u t : List ℕ) (a j : ℕ) (h : Held) → turn (query_held s u t a j h).answer s u t ≡ query_held s u t a j h
-still_held s u t a j NoSpan = refl
-still_held s u t a j NoStop = refl
-still_held s u t a j (Range i e) = refl
+still_held s u t a j (Err why) = refl
+still_held s u t a j (Ok units) = refl
 
 still_found : (s : State) (u t : List ℕ) (a : ℕ) (f : Option ℕ) → turn (query_found s u t a f).answer s u t ≡ query_found s u t a f
 still_found s u t a None = refl

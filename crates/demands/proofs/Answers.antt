@@ -1,5 +1,5 @@
 -- What a query, a release and a shrink of an address come to in a known state, by what the ledger has there. Assumes nothing.
-use Rattle.std.specs.Prelude.{Some, None}
+use Rattle.std.specs.Prelude.{Some, None, Err}
 use Prim.Native.Nat.{ℕ, ◌-◌, ◌*◌, ◌≤◌, ◌<◌}
 use mathlib.Core.List.{List}
 use mathlib.Core.Path.{◌≡◌, sym, ap, subst, ◌∙◌}
@@ -11,7 +11,7 @@ use Rattle.numbers.proofs.Bools.{not_both}
 use Rattle.numbers.proofs.Split.{by_eq, by_le}
 use Rattle.state.specs.declared.State.{State}
 use Rattle.state.specs.declared.Span.{Span}
-use Rattle.state.specs.declared.Held.TheVariants.{NoSpan}
+use Rattle.state.specs.declared.NotHeld.TheVariants.{NoSpan}
 use Rattle.state.specs.declared.Refusal.TheVariants.{InvalidArgument, InvalidState}
 use Rattle.state.specs.declared.Answer.TheVariants.{Released, Shrunk, Shown, Refused}
 use Rattle.state.specs.Table.{block_at}
@@ -72,7 +72,7 @@ module _ {s : State} {u t : List ℕ} {l : List Span} (k : Known s u t l) where
     where
       go : Finds s u t l a → Queried s u t l a
       go (nowhere e none) = unknown none (answered (query_at s u t l o len a None e))
-      go (nothing j h e y none) = unknown none (answered (query_held_lem s u t l o len a j NoSpan e y))
+      go (nothing j h e y none) = unknown none (answered (query_held_lem s u t l o len a j (Err NoSpan) e y))
       go (entry j i e h p y some fits ea mem used) = known ((e - i) * s.granularity) mem (answered (query_entry s u t l o len a j i e h p y))
 
   free_answer : (a j i e : ℕ) → j < s.count → (release_units s u t a j i e).answer ≡ Released (span a ((e - i) * s.granularity))
@@ -84,7 +84,7 @@ module _ {s : State} {u t : List ℕ} {l : List Span} (k : Known s u t l) where
     where
       go : (a ≡ 0 → ⊥) → Finds s u t l a → GivenBack s u t l a
       go ne (nowhere e none) = no_block ne (none_holds a e) none (answered (release_at s u t l o len a None ne e))
-      go ne (nothing j h e y none) = no_span ne (found a j e) none (answered (release_held_lem s u t l o len a j NoSpan ne e y))
+      go ne (nothing j h e y none) = no_span ne (found a j e) none (answered (release_held_lem s u t l o len a j (Err NoSpan) ne e y))
       go ne (entry j i e h p y some fits ea mem used) =
           struck ne ((e - i) * s.granularity) (found a j p) mem (answered (release_entry s u t l o len a j i e ne p y mem used) ∙ free_answer a j i e h)
 
@@ -93,7 +93,7 @@ module _ {s : State} {u t : List ℕ} {l : List Span} (k : Known s u t l) where
     where
       go : (a ≡ 0 → ⊥) → Finds s u t l a → CutDown s u t l a size
       go ne (nowhere e none) = unknown none (answered (shrink_at s u t l o len a size None ns ne e))
-      go ne (nothing j h e y none) = unknown none (answered (shrink_held_lem s u t l o len a size j NoSpan ns ne e y))
+      go ne (nothing j h e y none) = unknown none (answered (shrink_held_lem s u t l o len a size j (Err NoSpan) ns ne e y))
       go ne (entry j i e h p y some fits ea mem used) =
           let n = units_of size s.granularity in
           let g = s.granularity in

@@ -1,5 +1,5 @@
 -- In a sound state: what a lookup of an address finds, and what the calls on an address then come to. Assumes nothing.
-use Rattle.std.specs.Prelude.{Option, Some, None}
+use Rattle.std.specs.Prelude.{Option, Some, None, Ok, Err}
 use Prim.Native.Nat.{ℕ, ◌+◌, ◌-◌, ◌*◌, ◌≤◌, ◌<◌}
 use mathlib.Core.List.{List, [], ◌∷◌}
 use mathlib.Core.Bool.{true}
@@ -11,8 +11,8 @@ use Rattle.numbers.specs.Units.{units_of}
 use Rattle.numbers.proofs.Bools.{not_both}
 use Rattle.state.specs.declared.State.{State}
 use Rattle.state.specs.declared.Span.{Span}
-use Rattle.state.specs.declared.Held.{Held}
-use Rattle.state.specs.declared.Held.TheVariants.{NoSpan, NoStop, Range}
+use Rattle.state.specs.declared.NotHeld.TheVariants.{NoSpan, NoStop}
+use Rattle.state.specs.Held.{Held, range}
 use Rattle.state.specs.declared.Refusal.TheVariants.{InvalidArgument, InvalidState}
 use Rattle.state.specs.declared.Answer.TheVariants.{Shown, Shrunk}
 use Rattle.state.specs.Table.{block_at}
@@ -40,8 +40,8 @@ some_entry (x ∷ l) a z i = omega arith
 -- what stands at an address, and in the ledger
 pub data Finds (s : State) (u t : List ℕ) (l : List Span) (a : ℕ) : Type 0 where
   nowhere : lookup s a ≡ None → ((z : ℕ) → In a z l → ⊥) → Finds s u t l a
-  nothing : (j : ℕ) → j < s.count → lookup s a ≡ Some j → held_in s u t a j ≡ NoSpan → ((z : ℕ) → In a z l → ⊥) → Finds s u t l a
-  entry : (j i e : ℕ) → j < s.count → lookup s a ≡ Some j → held_in s u t a j ≡ Range i e → i < e → e ≤ (block_at s j).area
+  nothing : (j : ℕ) → j < s.count → lookup s a ≡ Some j → held_in s u t a j ≡ Err NoSpan → ((z : ℕ) → In a z l → ⊥) → Finds s u t l a
+  entry : (j i e : ℕ) → j < s.count → lookup s a ≡ Some j → held_in s u t a j ≡ Ok (range i e) → i < e → e ≤ (block_at s j).area
       → a ≡ (block_at s j).base + i * s.granularity → In a ((e - i) * s.granularity) l → e - i ≤ (block_at s j).used → Finds s u t l a
 
 module _ (s : State) (u t : List ℕ) (l : List Span) (o : Sound s u t l) (len : length s.blocks ≡ 64) where
@@ -65,9 +65,9 @@ module _ (s : State) (u t : List ℕ) (l : List Span) (o : Sound s u t l) (len :
   finds a = go (lookup s a) refl
     where
       held : (j : ℕ) → lookup s a ≡ Some j → (x : Held) → held_in s u t a j ≡ x → Told s.granularity s.w s.slots s.count s.blocks u t stands l o.agrees a j x → Finds s u t l a
-      held j e NoSpan z q = nothing j (found_in s a j (sym e)).0 e z q
-      held j e NoStop z q = absurd q
-      held j e (Range i k) z q = entry j i k (found_in s a j (sym e)).0 e z q.0 q.1 q.2 q.3 q.4
+      held j e (Err NoSpan) z q = nothing j (found_in s a j (sym e)).0 e z q
+      held j e (Err NoStop) z q = absurd q
+      held j e (Ok r) z q = entry j r.from r.to (found_in s a j (sym e)).0 e z q.0 q.1 q.2 q.3 q.4
 
       go : (x : Option ℕ) → lookup s a ≡ x → Finds s u t l a
       go None e = nowhere e (λ z mem.
@@ -77,7 +77,7 @@ module _ (s : State) (u t : List ℕ) (l : List Span) (o : Sound s u t l) (len :
       go (Some j) e = held j e (held_in s u t a j) refl (told_in a j (sym e))
 
   -- a span that stands there is an entry
-  pub held_entry : (a j i e : ℕ) → Holds s u t a j i e → (j < s.count) × Told s.granularity s.w s.slots s.count s.blocks u t stands l o.agrees a j (Range i e)
+  pub held_entry : (a j i e : ℕ) → Holds s u t a j i e → (j < s.count) × Told s.granularity s.w s.slots s.count s.blocks u t stands l o.agrees a j (Ok (range i e))
   held_entry a j i e h = (
     (found_in s a j h.found).0,
     subst (Told s.granularity s.w s.slots s.count s.blocks u t stands l o.agrees a j) h.held (told_in a j h.found),
@@ -97,8 +97,8 @@ module _ (s : State) (u t : List ℕ) (l : List Span) (o : Sound s u t l) (len :
   pub query_held_lem : (a j : ℕ) (x : Held) → lookup s a ≡ Some j → held_in s u t a j ≡ x → query_turn s u t a ≡ query_held s u t a j x
   query_held_lem a j x e z = query_at a (Some j) e ∙ ap (query_held s u t a j) z
 
-  pub query_entry : (a j i e : ℕ) → j < s.count → lookup s a ≡ Some j → held_in s u t a j ≡ Range i e → query_turn s u t a ≡ turn (Shown (span a ((e - i) * s.granularity))) s u t
-  query_entry a j i e h p q = query_held_lem a j (Range i e) p q ∙ ap (λ (g : ℕ). turn (Shown (span a ((e - i) * g))) s u t) (unit_is j h)
+  pub query_entry : (a j i e : ℕ) → j < s.count → lookup s a ≡ Some j → held_in s u t a j ≡ Ok (range i e) → query_turn s u t a ≡ turn (Shown (span a ((e - i) * s.granularity))) s u t
+  query_entry a j i e h p q = query_held_lem a j (Ok (range i e)) p q ∙ ap (λ (g : ℕ). turn (Shown (span a ((e - i) * g))) s u t) (unit_is j h)
 
   -- ---- release
   pub release-zero : (a : ℕ) → a ≡ 0 → release_turn s u t a ≡ refuse InvalidArgument s u t
@@ -112,10 +112,10 @@ module _ (s : State) (u t : List ℕ) (l : List Span) (o : Sound s u t l) (len :
   pub release_held_lem : (a j : ℕ) (x : Held) → (a ≡ 0 → ⊥) → lookup s a ≡ Some j → held_in s u t a j ≡ x → release_turn s u t a ≡ release_held s u t a j x
   release_held_lem a j x ne e z = release_at a (Some j) ne e ∙ ap (release_held s u t a j) z
 
-  pub release_entry : (a j i e : ℕ) → (a ≡ 0 → ⊥) → lookup s a ≡ Some j → held_in s u t a j ≡ Range i e → In a ((e - i) * s.granularity) l → e - i ≤ (block_at s j).used
+  pub release_entry : (a j i e : ℕ) → (a ≡ 0 → ⊥) → lookup s a ≡ Some j → held_in s u t a j ≡ Ok (range i e) → In a ((e - i) * s.granularity) l → e - i ≤ (block_at s j).used
       → release_turn s u t a ≡ release_units s u t a j i e
   release_entry a j i e ne p q mem used =
-      release_held_lem a j (Range i e) ne p q
+      release_held_lem a j (Ok (range i e)) ne p q
       ∙ rw (le-ltb (block_at s j).used (e - i) used, ne_eqb s.live 0 (λ z. omega (arith, o.live, some_entry l a ((e - i) * s.granularity) mem)))
 
   -- ---- shrink
@@ -135,10 +135,10 @@ module _ (s : State) (u t : List ℕ) (l : List Span) (o : Sound s u t l) (len :
   shrink_held_lem a size j x ns ne e z = shrink_at a size (Some j) ns ne e ∙ ap (shrink_held s u t a size j) z
 
   -- the units that a size takes, of a span that stands there
-  pub shrink_units_lem : (a size j i e : ℕ) → (size ≡ 0 → ⊥) → (a ≡ 0 → ⊥) → j < s.count → lookup s a ≡ Some j → held_in s u t a j ≡ Range i e → e - i ≤ (block_at s j).used
+  pub shrink_units_lem : (a size j i e : ℕ) → (size ≡ 0 → ⊥) → (a ≡ 0 → ⊥) → j < s.count → lookup s a ≡ Some j → held_in s u t a j ≡ Ok (range i e) → e - i ≤ (block_at s j).used
       → shrink_turn s u t a size ≡ shrink_units s u t a j i e (units_of size s.granularity)
   shrink_units_lem a size j i e ns ne h p q used =
-      shrink_held_lem a size j (Range i e) ns ne p q
+      shrink_held_lem a size j (Ok (range i e)) ns ne p q
       ∙ rw (le-ltb (block_at s j).used (e - i) used) (ap (λ (g : ℕ). shrink_units s u t a j i e (units_of size g)) (unit_is j h))
 
   pub units_more : (a j i e n : ℕ) → e - i < n → shrink_units s u t a j i e n ≡ refuse InvalidState s u t

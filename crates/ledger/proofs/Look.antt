@@ -1,4 +1,5 @@
 -- What a lookup finds at an address is what the ledger has there. Assumes nothing.
+use Rattle.std.specs.Prelude.{Ok, Err}
 use Prim.Native.Nat.{ℕ, ◌+◌, ◌-◌, ◌*◌, ◌/◌, ◌%◌, ◌≤◌, ◌<◌}
 use mathlib.Core.List.{List}
 use mathlib.Core.Bool.{Bool, true, false}
@@ -14,8 +15,8 @@ use Rattle.numbers.proofs.Split.{by_eq}
 use Rattle.slots.specs.Slots.{slot_of}
 use Rattle.block.specs.declared.Block.{Block}
 use Rattle.state.specs.declared.Span.{Span}
-use Rattle.state.specs.declared.Held.{Held}
-use Rattle.state.specs.declared.Held.TheVariants.{NoSpan, NoStop, Range}
+use Rattle.state.specs.declared.NotHeld.TheVariants.{NoSpan, NoStop}
+use Rattle.state.specs.Held.{Held, range}
 use Rattle.machine.specs.Span.{held_at, held_of}
 use Rattle.ledger.specs.Paint.{InPieces}
 use Rattle.ledger.proofs.Pieces.{in_units}
@@ -69,9 +70,9 @@ module _ (g w slots n : ℕ) (bs : List Block) (u t : List ℕ) (st : Stands g w
 
   -- what an answer at address a of block j says of the ledger
   abbrev pub Told : ℕ → ℕ → Held → Type 0
-  Told a j (Range i e) = (i < e) × (e ≤ (at bs j).area) × (a ≡ (at bs j).base + i * g) × In a ((e - i) * g) l × (e - i ≤ (at bs j).used)
-  Told a j NoStop = ⊥
-  Told a j NoSpan = (z : ℕ) → In a z l → ⊥
+  Told a j (Ok r) = (r.from < r.to) × (r.to ≤ (at bs j).area) × (a ≡ (at bs j).base + r.from * g) × In a ((r.to - r.from) * g) l × (r.to - r.from ≤ (at bs j).used)
+  Told a j (Err NoStop) = ⊥
+  Told a j (Err NoSpan) = (z : ℕ) → In a z l → ⊥
 
   module _ (a j : ℕ) (h : j < n) (e : within (at bs j).base (at bs j).size a ≡ true) (low : (at bs j).base ≤ a) where
     abbrev b : Block
@@ -91,13 +92,14 @@ module _ (g w slots n : ℕ) (bs : List Block) (u t : List ℕ) (st : Stands g w
     offset k q = omega arith
 
     by_unit : a ≡ b.base + i * g → (x : Held) → StandsAt (view_of g b l) b.area i x → Told a j x
-    by_unit q (Range x k) o =
+    by_unit q (Ok r) o =
+        let k = r.to in
         let c = s.each j h in
         let m = view_in g st.unit b (st.whole j h) l i (k - i) (aligned g w slots n bs (length u) (length t) st j h l s.homes) o.3 in
-        subst (λ (y : ℕ). Told a j (Range y k)) (sym o.0)
+        subst (λ (y : ℕ). Told a j (Ok (range y k))) (sym o.0)
         (o.1, o.2, q, subst (λ (y : ℕ). In y ((k - i) * g) l) (sym q) m, omega (arith, in_units (view_of g b l) i (k - i) o.3, c.count))
-    by_unit q NoStop o = o
-    by_unit q NoSpan o = λ z mem.
+    by_unit q (Err NoStop) o = o
+    by_unit q (Err NoSpan) o = λ z mem.
         let y = here z mem in
         let same : y.0 ≡ i = sym (mul-div_cancel y.0 st.unit) ∙ ap (λ (c : ℕ). c / g) (sym (offset y.0 y.2)) in
         o y.1 (subst (λ (k : ℕ). InPieces k y.1 (view_of g b l)) same y.3)
@@ -105,7 +107,7 @@ module _ (g w slots n : ℕ) (bs : List Block) (u t : List ℕ) (st : Stands g w
     pub held_told : Told a j (held_of w b g u t a)
     held_told = go (eqb ((a - b.base) % g) 0) refl
       where
-        go : (c : Bool) → eqb ((a - b.base) % g) 0 ≡ c → Told a j (pick c (held_at (slot_of w b.slot u) (slot_of w b.slot t) b.area i) NoSpan)
+        go : (c : Bool) → eqb ((a - b.base) % g) 0 ≡ c → Told a j (pick c (held_at (slot_of w b.slot u) (slot_of w b.slot t) b.area i) (Err NoSpan))
         go true q =
             by_unit (omega (arith, div-add-mod' (a - b.base) g, eqb-true ((a - b.base) % g) 0 q)) (held_at (slot_of w b.slot u) (slot_of w b.slot t) b.area i)
             (stands (view_of g b l) b.area (slot_of w b.slot u) (slot_of w b.slot t) (s.each j h).paints i)

@@ -1,5 +1,5 @@
 -- What stands at a unit by its bits (01, Span start) is the piece that starts there. So the maps fix the pieces. Assumes nothing.
-use Rattle.std.specs.Prelude.{Some}
+use Rattle.std.specs.Prelude.{Some, Ok, Err}
 use Prim.Native.Nat.{ℕ, ◌+◌, ◌-◌, ◌≤◌, ◌<◌}
 use mathlib.Core.Bool.{Bool, true, false, ◌||◌}
 use mathlib.Core.List.{List}
@@ -11,8 +11,8 @@ use borrow.Author.Tests.{eq-eqb, ne_eqb, eqb-true}
 use Rattle.numbers.proofs.Bools.{not_both, and_left, and_right, or_cases, or_left, or_right}
 use Rattle.numbers.proofs.Split.{by_eq}
 use Rattle.bits.specs.Bits.{bit}
-use Rattle.state.specs.declared.Held.{Held}
-use Rattle.state.specs.declared.Held.TheVariants.{NoSpan, NoStop, Range}
+use Rattle.state.specs.declared.NotHeld.TheVariants.{NoSpan, NoStop}
+use Rattle.state.specs.Held.{Held, range}
 use Rattle.state.specs.Find.{least_from}
 use Rattle.state.proofs.Find.{least_is, least_unique}
 use Rattle.machine.specs.Span.{starts, up_to, held_at}
@@ -22,9 +22,9 @@ use Rattle.ledger.proofs.Paints.{in_used, in_stop, in_last, before}
 
 -- what an answer says of the pieces
 abbrev pub Stands : List Piece → ℕ → ℕ → Held → Type 0
-Stands l area i (Range x e) = (x ≡ i) × (i < e) × (e ≤ area) × InPieces i (e - i) l
-Stands l area i NoStop = ⊥
-Stands l area i NoSpan = (n : ℕ) → InPieces i n l → ⊥
+Stands l area i (Ok units) = (units.from ≡ i) × (i < units.to) × (units.to ≤ area) × InPieces i (units.to - i) l
+Stands l area i (Err NoStop) = ⊥
+Stands l area i (Err NoSpan) = (n : ℕ) → InPieces i n l → ⊥
 
 module _ (l : List Piece) (area : ℕ) (u t : List ℕ) (p : Paints l area u t) where
   -- ---- a span starts where a piece starts
@@ -70,11 +70,11 @@ module _ (l : List Piece) (area : ℕ) (u t : List ℕ) (p : Paints l area u t) 
         before = λ j a b. ne_eqb (bit t j) 1 (λ e. omega (arith, in_last l area u t p i n j m a (omega arith) e));
       })
 
-  pub in_stands : (i n : ℕ) → InPieces i n l → held_at u t area i ≡ Range i (i + n)
+  pub in_stands : (i n : ℕ) → InPieces i n l → held_at u t area i ≡ Ok (range i (i + n))
   in_stands i n m =
       let f = in_inside l area i n p.inside m in
       let e : i + n - 1 + 1 ≡ i + n = omega arith in
-      rw (in_starts i n m) (ap (up_to i) (stop_at i n m) ∙ ap (Range i) e)
+      rw (in_starts i n m) (ap (up_to i) (stop_at i n m) ∙ ap (λ (x : ℕ). Ok (range i x)) e)
 
   pub stands : (i : ℕ) → Stands l area i (held_at u t area i)
   stands i = go (starts u t i) refl
@@ -88,13 +88,13 @@ module _ (l : List Piece) (area : ℕ) (u t : List ℕ) (p : Paints l area u t) 
       go false y = rw y (λ n m. not_both (starts u t i) (in_starts i n m) y)
 
   -- ---- by the answer
-  pub units_stand : (i x e : ℕ) → held_at u t area i ≡ Range x e → (x ≡ i) × (i < e) × (e ≤ area) × InPieces i (e - i) l
+  pub units_stand : (i x e : ℕ) → held_at u t area i ≡ Ok (range x e) → (x ≡ i) × (i < e) × (e ≤ area) × InPieces i (e - i) l
   units_stand i x e h = subst (Stands l area i) h (stands i)
 
-  pub stop_never_missing : (i : ℕ) → held_at u t area i ≡ NoStop → ⊥
+  pub stop_never_missing : (i : ℕ) → held_at u t area i ≡ Err NoStop → ⊥
   stop_never_missing i h = subst (Stands l area i) h (stands i)
 
-  pub none_stands : (i n : ℕ) → held_at u t area i ≡ NoSpan → InPieces i n l → ⊥
+  pub none_stands : (i n : ℕ) → held_at u t area i ≡ Err NoSpan → InPieces i n l → ⊥
   none_stands i n h = subst (Stands l area i) h (stands i) n
 
 -- two lists that paint the same maps have the same pieces

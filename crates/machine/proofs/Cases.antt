@@ -1,5 +1,5 @@
 -- What the turn of each call can be, with what is known in each case, a refusal's condition too: a property that holds in every case holds of the turn. Assumes nothing.
-use Rattle.std.specs.Prelude.{Option, Some, None}
+use Rattle.std.specs.Prelude.{Option, Some, None, Ok, Err}
 use Prim.Native.Nat.{ℕ, ◌-◌, ◌/◌, ◌≤◌, ◌<◌}
 use mathlib.Core.Bool.{Bool, true, false, not, ◌||◌}
 use mathlib.Core.List.{List}
@@ -19,8 +19,8 @@ use Rattle.sizes.specs.declared.SizeError.TheVariants as size_error
 use Rattle.sizes.specs.Sizes.{rounded, ideal_size}
 use Rattle.sizes.proofs.Sizes.{rounded_is}
 use Rattle.state.specs.declared.State.{State}
-use Rattle.state.specs.declared.Held.{Held}
-use Rattle.state.specs.declared.Held.TheVariants.{NoSpan, NoStop as noStop, Range}
+use Rattle.state.specs.declared.NotHeld.TheVariants.{NoSpan, NoStop as noStop}
+use Rattle.state.specs.Held.{Held, range}
 use Rattle.state.specs.declared.Hit.{Hit}
 use Rattle.state.specs.declared.Hit.TheVariants.{At, Nowhere}
 use Rattle.state.specs.declared.Refusal.{Refusal}
@@ -50,7 +50,7 @@ use Rattle.machine.proofs.Searched.{search_other, search_slot, search_place, sea
 pub record Holds (s : State) (u t : List ℕ) (a j i e : ℕ) : Type 0 where
   pub good : Good s u t
   pub found : Some j ≡ lookup s a
-  pub held : held_in s u t a j ≡ Range i e
+  pub held : held_in s u t a j ≡ Ok (range i e)
 
 -- the call released it
 pub record FreesSpan (s : State) (u t : List ℕ) (a j i e : ℕ) : Type 0 where
@@ -167,14 +167,14 @@ module _ (P : Turn → Type 0) (s : State) (u t : List ℕ) where
     -- ---- an address in no block, at no span start, at a span with no end, or at a span; F and H are what the call makes of the two findings
     module _ (F : Option ℕ → Turn) (H : ℕ → Held → Turn) (good : Good s u t)
         (nowhere : InNone s u t a → P (F None))
-        (nothing : (j : ℕ) → InBlock s u t a j → (IsStart s u t a j → ⊥) → P (H j NoSpan))
-        (endless : (j : ℕ) → InBlock s u t a j → IsStart s u t a j → NoStop s u t a j → P (H j noStop))
-        (spans : (j i e : ℕ) → Holds s u t a j i e → InBlock s u t a j → IsStart s u t a j → HasUnits s u t a j (e - i) → P (H j (Range i e)))
+        (nothing : (j : ℕ) → InBlock s u t a j → (IsStart s u t a j → ⊥) → P (H j (Err NoSpan)))
+        (endless : (j : ℕ) → InBlock s u t a j → IsStart s u t a j → NoStop s u t a j → P (H j (Err noStop)))
+        (spans : (j i e : ℕ) → Holds s u t a j i e → InBlock s u t a j → IsStart s u t a j → HasUnits s u t a j (e - i) → P (H j (Ok (range i e))))
         (in_block : (j : ℕ) → P (H j (held_in s u t a j)) → P (F (Some j))) where
       held : (j : ℕ) → Some j ≡ lookup s a → InBlock s u t a j → (h : Held) → held_in s u t a j ≡ h → Seen s u t a j h → P (H j h)
-      held j f here NoSpan z q = nothing j here q
-      held j f here noStop z q = endless j here q.0 q.1
-      held j f here (Range i e) z q = spans j i e (record { good = good; found = f; held = z }) here q.2 q.3
+      held j f here (Err NoSpan) z q = nothing j here q
+      held j f here (Err noStop) z q = endless j here q.0 q.1
+      held j f here (Ok r) z q = spans j r.from r.to (record { good = good; found = f; held = z }) here q.2 q.3
 
       found : (f : Option ℕ) → f ≡ lookup s a → Looks s u t a f → P (F f)
       found None z q = nowhere q

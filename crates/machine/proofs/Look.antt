@@ -1,5 +1,5 @@
 -- What stands at an address, in the words of the table of refusals, and in the machine's: the one gives the other. Assumes nothing.
-use Rattle.std.specs.Prelude.{Option, Some, None}
+use Rattle.std.specs.Prelude.{Option, Some, None, Ok, Err}
 use Prim.Native.Nat.{ℕ, ◌+◌, ◌-◌, ◌%◌, ◌<◌}
 use mathlib.Core.Bool.{Bool, true, false}
 use mathlib.Core.List.{List}
@@ -12,8 +12,8 @@ use Rattle.numbers.proofs.Bools.{not_both}
 use Rattle.numbers.proofs.Split.{same_of_not-lt}
 use Rattle.bits.specs.Bits.{bit}
 use Rattle.state.specs.declared.State.{State}
-use Rattle.state.specs.declared.Held.{Held}
-use Rattle.state.specs.declared.Held.TheVariants.{NoSpan, NoStop as noStop, Range}
+use Rattle.state.specs.declared.NotHeld.TheVariants.{NoSpan, NoStop as noStop}
+use Rattle.state.specs.Held.{Held, range}
 use Rattle.state.specs.Table.{block_at}
 use Rattle.state.specs.Find.{holds, least_from, lookup}
 use Rattle.state.proofs.Find.{Least, least_is, least_of}
@@ -43,9 +43,9 @@ module _ (s : State) (u t : List ℕ) where
 
   -- ---- the span
   abbrev pub Seen : ℕ → ℕ → Held → Type 0
-  Seen a j NoSpan = IsStart s u t a j → ⊥
-  Seen a j noStop = IsStart s u t a j × NoStop s u t a j
-  Seen a j (Range i e) = (i ≡ unit_at s u t a j) × (i < e) × IsStart s u t a j × HasUnits s u t a j (e - i)
+  Seen a j (Err NoSpan) = IsStart s u t a j → ⊥
+  Seen a j (Err noStop) = IsStart s u t a j × NoStop s u t a j
+  Seen a j (Ok units) = (units.from ≡ unit_at s u t a j) × (units.from < units.to) × IsStart s u t a j × HasUnits s u t a j (units.to - units.from)
 
   module _ (a j : ℕ) where
     abbrev offset : ℕ
@@ -74,11 +74,11 @@ module _ (s : State) (u t : List ℕ) where
     )
     ends st None q = (st, λ k l m b. not_both (stops k) (eq-eqb (bit (stop_of s u t j) k) 1 b) (q k l (omega arith)))
 
-    started : offset ≡ 0 → (c : Bool) → starts (used_of s u t j) (stop_of s u t j) at ≡ c → Seen a j (pick c (up_to at (least_from at (area - at) stops)) NoSpan)
+    started : offset ≡ 0 → (c : Bool) → starts (used_of s u t j) (stop_of s u t j) at ≡ c → Seen a j (pick c (up_to at (least_from at (area - at) stops)) (Err NoSpan))
     started z true e = ends (z, e) (least_from at (area - at) stops) (least_is at (area - at) stops)
     started z false e = λ st. not_both (starts (used_of s u t j) (stop_of s u t j) at) st.1 e
 
-    aligned : (c : Bool) → eqb offset 0 ≡ c → Seen a j (pick c (held_at (used_of s u t j) (stop_of s u t j) area at) NoSpan)
+    aligned : (c : Bool) → eqb offset 0 ≡ c → Seen a j (pick c (held_at (used_of s u t j) (stop_of s u t j) area at) (Err NoSpan))
     aligned true e = started (eqb-true offset 0 e) (starts (used_of s u t j) (stop_of s u t j) at) refl
     aligned false e = λ st. eqb-false offset 0 e st.0
 
@@ -95,29 +95,29 @@ module _ (s : State) (u t : List ℕ) where
   has_stop : (a j n : ℕ) → HasUnits s u t a j n → NoStop s u t a j → ⊥
   has_stop a j n q none = none (unit_at s u t a j + n - 1) (omega (arith, q.0)) (omega (arith, q.0, q.1)) q.2
 
-  pub held_none : (a j : ℕ) → (IsStart s u t a j → ⊥) → held_in s u t a j ≡ NoSpan
+  pub held_none : (a j : ℕ) → (IsStart s u t a j → ⊥) → held_in s u t a j ≡ Err NoSpan
   held_none a j not_start = go (held_in s u t a j) (seen a j)
     where
-      go : (h : Held) → Seen a j h → h ≡ NoSpan
-      go NoSpan q = refl
-      go noStop q = absurd (not_start q.0)
-      go (Range i e) q = absurd (not_start q.2)
+      go : (h : Held) → Seen a j h → h ≡ Err NoSpan
+      go (Err NoSpan) q = refl
+      go (Err noStop) q = absurd (not_start q.0)
+      go (Ok r) q = absurd (not_start q.2)
 
-  pub held_endless : (a j : ℕ) → IsStart s u t a j → NoStop s u t a j → held_in s u t a j ≡ noStop
+  pub held_endless : (a j : ℕ) → IsStart s u t a j → NoStop s u t a j → held_in s u t a j ≡ Err noStop
   held_endless a j st none = go (held_in s u t a j) (seen a j)
     where
-      go : (h : Held) → Seen a j h → h ≡ noStop
-      go NoSpan q = absurd (q st)
-      go noStop q = refl
-      go (Range i e) q = absurd (has_stop a j (e - i) q.3 none)
+      go : (h : Held) → Seen a j h → h ≡ Err noStop
+      go (Err NoSpan) q = absurd (q st)
+      go (Err noStop) q = refl
+      go (Ok r) q = absurd (has_stop a j (r.to - r.from) q.3 none)
 
-  pub held_units : (a j n : ℕ) → IsStart s u t a j → HasUnits s u t a j n → held_in s u t a j ≡ Range (unit_at s u t a j) (unit_at s u t a j + n)
+  pub held_units : (a j n : ℕ) → IsStart s u t a j → HasUnits s u t a j n → held_in s u t a j ≡ Ok (range (unit_at s u t a j) (unit_at s u t a j + n))
   held_units a j n st has = go (held_in s u t a j) (seen a j)
     where
-      go : (h : Held) → Seen a j h → h ≡ Range (unit_at s u t a j) (unit_at s u t a j + n)
-      go NoSpan q = absurd (q st)
-      go noStop q = absurd (has_stop a j n has q.1)
-      go (Range i e) q =
-          let k : e - i ≡ n = one-length a j (e - i) n q.3 has in
-          let z : e ≡ unit_at s u t a j + n = omega (arith, k, q.0, q.1) in
-          ap₂ (λ (x y : ℕ). Range x y) q.0 z
+      go : (h : Held) → Seen a j h → h ≡ Ok (range (unit_at s u t a j) (unit_at s u t a j + n))
+      go (Err NoSpan) q = absurd (q st)
+      go (Err noStop) q = absurd (has_stop a j n has q.1)
+      go (Ok r) q =
+          let k : r.to - r.from ≡ n = one-length a j (r.to - r.from) n q.3 has in
+          let z : r.to ≡ unit_at s u t a j + n = omega (arith, k, q.0, q.1) in
+          ap₂ (λ (x y : ℕ). Ok (range x y)) q.0 z

@@ -1,13 +1,12 @@
 -- Document 01, Release: the call release. Assumes nothing.
-use Rattle.std.specs.Prelude.{◌-◌, not, ◌||◌, ltb, eqb, length, ℕ, Option, Some, None}
+use Rattle.std.specs.Prelude.{◌-◌, not, ◌||◌, ltb, eqb, length, ℕ, Option, Some, None, Ok, Err}
 use Rattle.numbers.specs.Names.{Address, Units, Age, Map}
 use Rattle.numbers.specs.Pick.{pick}
 use Rattle.numbers.specs.Units.{bytes_of}
 use Rattle.block.specs.declared.Block.{Block}
 use Rattle.block.specs.Marking.{mark_released}
 use Rattle.state.specs.declared.State.{State}
-use Rattle.state.specs.declared.Held.{Held}
-use Rattle.state.specs.declared.Held.TheVariants.{NoSpan, NoStop, Range}
+use Rattle.state.specs.Held.{Held, refusal_of}
 use Rattle.state.specs.declared.Refusal.TheVariants.{InvalidArgument, InvalidState, BadShape, Damaged}
 use Rattle.state.specs.declared.Answer.{Answer}
 use Rattle.state.specs.declared.Answer.TheVariants.{Released}
@@ -43,10 +42,9 @@ release_units s u t a j from to =
 
 -- also damaged: a span longer than the block's used count, and live count 0
 abbrev pub release_held : State → Map → Map → Address → Age → Held → Turn
-release_held s u t a j NoSpan = refuse InvalidArgument s u t
-release_held s u t a j NoStop = refuse Damaged s u t
-release_held s u t a j (Range from to) =
-    pick (ltb (block_at s j).used (to - from) || eqb s.live 0) (refuse Damaged s u t) (release_units s u t a j from to)
+release_held s u t a j (Err why) = refuse (refusal_of why) s u t
+release_held s u t a j (Ok units) =
+    pick (ltb (block_at s j).used (units.to - units.from) || eqb s.live 0) (refuse Damaged s u t) (release_units s u t a j units.from units.to)
 
 -- if no block holds the address, the call ends with refusal 3
 abbrev pub release_found : State → Map → Map → Address → Option ℕ → Turn

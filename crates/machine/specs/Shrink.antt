@@ -1,12 +1,11 @@
 -- Document 01, Shrink: the call shrink. Assumes nothing.
-use Rattle.std.specs.Prelude.{◌+◌, ◌-◌, ltb, eqb, length, ℕ, Option, Some, None}
+use Rattle.std.specs.Prelude.{◌+◌, ◌-◌, ltb, eqb, length, ℕ, Option, Some, None, Ok, Err}
 use Rattle.numbers.specs.Names.{Address, Bytes, Units, Age, Map}
 use Rattle.numbers.specs.Pick.{pick}
 use Rattle.numbers.specs.Units.{units_of, bytes_of}
 use Rattle.block.specs.Marking.{mark_shrunk}
 use Rattle.state.specs.declared.State.{State}
-use Rattle.state.specs.declared.Held.{Held}
-use Rattle.state.specs.declared.Held.TheVariants.{NoSpan, NoStop, Range}
+use Rattle.state.specs.Held.{Held, refusal_of}
 use Rattle.state.specs.declared.Refusal.TheVariants.{InvalidArgument, InvalidState, BadShape, Damaged}
 use Rattle.state.specs.declared.Answer.TheVariants.{Shrunk}
 use Rattle.state.specs.Table.{block_at}
@@ -31,10 +30,10 @@ shrink_units s u t a j from to n =
 
 -- units = new size over the unit, rounded up, exactly
 abbrev pub shrink_held : State → Map → Map → Address → Bytes → Age → Held → Turn
-shrink_held s u t a size j NoSpan = refuse InvalidArgument s u t
-shrink_held s u t a size j NoStop = refuse Damaged s u t
-shrink_held s u t a size j (Range from to) =
-    pick (ltb (block_at s j).used (to - from)) (refuse Damaged s u t) (shrink_units s u t a j from to (units_of size (unit_of s (block_at s j))))
+shrink_held s u t a size j (Err why) = refuse (refusal_of why) s u t
+shrink_held s u t a size j (Ok units) =
+    pick (ltb (block_at s j).used (units.to - units.from)) (refuse Damaged s u t)
+    (shrink_units s u t a j units.from units.to (units_of size (unit_of s (block_at s j))))
 
 -- if no block holds the address, the call ends with refusal 1
 abbrev pub shrink_found : State → Map → Map → Address → Bytes → Option ℕ → Turn

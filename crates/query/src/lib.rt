@@ -4,7 +4,7 @@
 ghost use Rattle.std.specs.Prelude.{◌≡◌};
 ghost use Rattle.machine.specs.Span.{query_turn};
 
-use state::{Answer, Held, Refusal, State};
+use state::{Answer, Refusal, State};
 
 // Shows the span that starts at an address. Changes nothing.
 pub fn query(s: State, used: &[u32], stop: &[u32], address: u64) -> Answer
@@ -13,14 +13,11 @@ pub fn query(s: State, used: &[u32], stop: &[u32], address: u64) -> Answer
     if !shape::shape_ok(s, used.len(), stop.len()) {
         return Answer::Refused(Refusal::BadShape);
     }
-    let found = table::lookup_block(s, address);
-    let Some(j) = found else {
+    let Some(j) = table::lookup_block(s, address) else {
         return Answer::Refused(Refusal::InvalidArgument);
     };
-    let held = spans::held_in(s, used, stop, j, address);
-    match held {
-        Held::NoSpan => Answer::Refused(Refusal::InvalidArgument),
-        Held::NoStop => Answer::Refused(Refusal::Damaged),
-        Held::Range(from, to) => Answer::Shown(spans::span_at(s, j, address, to - from)),
+    match spans::held_in(s, used, stop, j, address) {
+        Err(why) => Answer::Refused(why.into()),
+        Ok(units) => Answer::Shown(spans::span_at(s, j, address, units.to - units.from)),
     }
 }

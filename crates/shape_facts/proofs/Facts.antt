@@ -1,5 +1,5 @@
 -- What a good shape gives to the functions that the calls are made of. Assumes nothing.
-use Rattle.std.specs.Prelude.{Option, Some, None}
+use Rattle.std.specs.Prelude.{Option, Some, None, Ok, Err}
 use Prim.Native.Nat.{ℕ, ◌+◌, ◌-◌, ◌*◌, ◌/◌, ◌%◌, ◌^◌, ◌≤◌, ◌<◌}
 use mathlib.Core.Bool.{Bool, true, false}
 use mathlib.Core.Path.{◌≡◌, refl, sym, ap, subst, ◌∙◌}
@@ -18,8 +18,10 @@ use Rattle.sizes.specs.declared.Pool.{Pool}
 use Rattle.state.specs.declared.State.{State}
 use Rattle.state.specs.InTable.{InTable}
 use Rattle.state.specs.Table.{block_at, pool_at}
-use Rattle.state.specs.declared.Held.TheVariants.{NoSpan, Range}
+use Rattle.state.specs.declared.NotHeld.TheVariants.{NoSpan}
+use Rattle.state.specs.Held.{range}
 use Rattle.state.specs.Find.{holds, least_from, lookup}
+use Rattle.state.proofs.Held.{same_range}
 use Rattle.state.proofs.Find.{Least, least_is, least_of}
 use Rattle.shape.specs.Shaped.{Shaped}
 use Rattle.table.specs.Ordered.{Ordered, Arranged, Slotted}
@@ -104,22 +106,21 @@ found_in s a j e =
 
 -- ---- a span that stands at an address starts there and lies in its block
 module _ (t : List ℕ) (area : ℕ) where
-  up_to_in : (i : ℕ) (r : Option ℕ) → Least i (i + (area - i)) (λ k. eqb (bit t k) 1) r → (j e : ℕ) → up_to i r ≡ Range j e → (i ≡ j) × (j < e) × (e ≤ area)
+  up_to_in : (i : ℕ) (r : Option ℕ) → Least i (i + (area - i)) (λ k. eqb (bit t k) 1) r → (j e : ℕ) → up_to i r ≡ Ok (range j e) → (i ≡ j) × (j < e) × (e ≤ area)
   up_to_in i (Some k) q j e z =
-      let p : i ≡ j = cc in
-      let r : k + 1 ≡ e = cc in
-      (p, omega (arith, q.low), omega (arith, q.low, q.high))
+      let p = same_range i (k + 1) j e z in
+      (p.0, omega (arith, q.low, p.0, p.1), omega (arith, q.low, q.high, p.1))
   up_to_in i None q j e z = let z : ◌≡◌ {A = ℕ} 0 1 = cc in absurd (omega arith)
 
-  held_at_in : (i : ℕ) (b : Bool) (j e : ℕ) → pick b (up_to i (least_from i (area - i) (λ k. eqb (bit t k) 1))) NoSpan ≡ Range j e → (i ≡ j) × (j < e) × (e ≤ area)
+  held_at_in : (i : ℕ) (b : Bool) (j e : ℕ) → pick b (up_to i (least_from i (area - i) (λ k. eqb (bit t k) 1))) (Err NoSpan) ≡ Ok (range j e) → (i ≡ j) × (j < e) × (e ≤ area)
   held_at_in i true j e z = up_to_in i (least_from i (area - i) (λ k. eqb (bit t k) 1)) (least_is i (area - i) (λ k. eqb (bit t k) 1)) j e z
   held_at_in i false j e z = let z : ◌≡◌ {A = ℕ} 0 1 = cc in absurd (omega arith)
 
-pub held_is : (w : ℕ) (b : Block) (unit : ℕ) (u t : List ℕ) (a i e : ℕ) → held_of w b unit u t a ≡ Range i e → (a - b.base ≡ i * unit) × (i < e) × (e ≤ b.area)
+pub held_is : (w : ℕ) (b : Block) (unit : ℕ) (u t : List ℕ) (a i e : ℕ) → held_of w b unit u t a ≡ Ok (range i e) → (a - b.base ≡ i * unit) × (i < e) × (e ≤ b.area)
 held_is w b unit u t a i e z = go (eqb ((a - b.base) % unit) 0) refl z
   where
     go : (c : Bool) → eqb ((a - b.base) % unit) 0 ≡ c
-        → pick c (held_at (slot_of w b.slot u) (slot_of w b.slot t) b.area ((a - b.base) / unit)) NoSpan ≡ Range i e
+        → pick c (held_at (slot_of w b.slot u) (slot_of w b.slot t) b.area ((a - b.base) / unit)) (Err NoSpan) ≡ Ok (range i e)
         → (a - b.base ≡ i * unit) × (i < e) × (e ≤ b.area)
     go true q z =
         let r = held_at_in (slot_of w b.slot t) b.area ((a - b.base) / unit)
@@ -127,7 +128,7 @@ held_is w b unit u t a i e z = go (eqb ((a - b.base) % unit) 0) refl z
         (omega (arith, div-add-mod' (a - b.base) unit, eqb-true ((a - b.base) % unit) 0 q, ap (λ (n : ℕ). n * unit) r.0), r.1, r.2)
     go false q z = let z : ◌≡◌ {A = ℕ} 0 1 = cc in absurd (omega arith)
 
-pub held_in_range : (w : ℕ) (b : Block) (unit : ℕ) (u t : List ℕ) (a i e : ℕ) → held_of w b unit u t a ≡ Range i e → (i < e) × (e ≤ b.area)
+pub held_in_range : (w : ℕ) (b : Block) (unit : ℕ) (u t : List ℕ) (a i e : ℕ) → held_of w b unit u t a ≡ Ok (range i e) → (i < e) × (e ≤ b.area)
 held_in_range w b unit u t a i e z = let r = held_is w b unit u t a i e z in (r.1, r.2)
 
 -- bytes of some units of a block fit an address

@@ -1,4 +1,5 @@
 -- The rule of shrink, by the cases that the code tells apart, which compares in bytes what the rule compares in units. Assumes nothing.
+use Rattle.std.specs.Prelude.{Ok}
 use Prim.Native.Nat.{ℕ, ◌-◌, ◌≤◌, ◌<◌}
 use mathlib.Core.Bool.{true, false}
 use mathlib.Core.List.{List}
@@ -9,7 +10,7 @@ use Rattle.numbers.specs.Units.{units_of, bytes_of}
 use Rattle.numbers.proofs.Split.{by_le}
 use Rattle.numbers.proofs.Units.{units-le}
 use Rattle.state.specs.declared.State.{State}
-use Rattle.state.specs.declared.Held.TheVariants.{Range}
+use Rattle.state.specs.Held.{range}
 use Rattle.state.specs.declared.Refusal.TheVariants.{InvalidState, Damaged}
 use Rattle.state.specs.declared.Answer.TheVariants.{Shrunk}
 use Rattle.state.specs.Table.{block_at}
@@ -37,11 +38,11 @@ module _ (s : State) (u t : List ℕ) (a j i e n : ℕ) where
   fewer_units y z = rw (y, z)
 
 module _ (s : State) (u t : List ℕ) (a size j i e : ℕ) where
-  pub shrunk_damaged : ltb (block_at s j).used (e - i) ≡ true → refuse Damaged s u t ≡ shrink_held s u t a size j (Range i e)
+  pub shrunk_damaged : ltb (block_at s j).used (e - i) ≡ true → refuse Damaged s u t ≡ shrink_held s u t a size j (Ok (range i e))
   shrunk_damaged z = rw z
 
   pub shrunk_units : ltb (block_at s j).used (e - i) ≡ false
-      → shrink_units s u t a j i e (units_of size (unit_of s (block_at s j))) ≡ shrink_held s u t a size j (Range i e)
+      → shrink_units s u t a j i e (units_of size (unit_of s (block_at s j))) ≡ shrink_held s u t a size j (Ok (range i e))
   shrunk_units z = rw z
 
 -- ---- without a byte

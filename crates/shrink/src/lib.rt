@@ -7,7 +7,7 @@ ghost use Rattle.std.specs.Prelude.{◌≡◌};
 ghost use Rattle.machine.specs.Turn.{turn_of};
 ghost use Rattle.machine.specs.Shrink.{shrink_turn};
 
-use state::{Held, Outcome, Refusal, State};
+use state::{Outcome, Refusal, State};
 
 // Shortens the span that starts at an address to the units that `size` bytes take; a size of 0 releases it.
 pub fn shrink(s: State, used: &mut [u32], stop: &mut [u32], address: u64, size: u64) -> Outcome
@@ -22,24 +22,17 @@ pub fn shrink(s: State, used: &mut [u32], stop: &mut [u32], address: u64, size: 
     if address == 0 {
         return state::refused(s, Refusal::InvalidArgument);
     }
-    let found = table::lookup_block(s, address);
-    let Some(j) = found else {
+    let Some(j) = table::lookup_block(s, address) else {
         return state::refused(s, Refusal::InvalidArgument);
     };
-    let held = spans::held_in(s, used, stop, j, address);
-    match held {
-        Held::NoSpan => {
-            return state::refused(s, Refusal::InvalidArgument);
-        }
-        Held::NoStop => {
-            return state::refused(s, Refusal::Damaged);
-        }
-        Held::Range(from, to) => {
+    match spans::held_in(s, used, stop, j, address) {
+        Err(why) => state::refused(s, why.into()),
+        Ok(units) => {
             let b = state::block_at(s, j);
-            if b.used < to - from {
+            if b.used < units.to - units.from {
                 return state::refused(s, Refusal::Damaged);
             }
-            return cut::shrink_span(s, used, stop, address, size, j, from, to);
+            cut::shrink_span(s, used, stop, address, size, j, units)
         }
     }
 }

@@ -11,7 +11,7 @@ ghost use Rattle.machine.specs.Span.{starts, held_at, held_of, held_in};
 ghost use Rattle.spans.specs.AddressIn.{AddressIn};
 
 use block::Block;
-use state::{Held, Span, State};
+use state::{NotHeld, Span, State, UnitRange};
 
 // Makes the span of `n` units at an address of block `j`.
 pub fn span_at(s: State, j: usize, address: u64, n: u32) -> Span
@@ -42,29 +42,32 @@ fn is_start(used: &[u32], stop: &[u32], unit: usize) -> bool
 }
 
 // Finds the span that starts at a unit of a block, given the block's words.
-fn held_at(used: &[u32], stop: &[u32], area: u32, unit: u32) -> Held
+fn held_at(used: &[u32], stop: &[u32], area: u32, unit: u32) -> Result<UnitRange, NotHeld>
     requires { (unit < area) × (area ≤ 32 * length used.now) × (area ≤ 32 * length stop.now) × (length stop.now < 2 ^ 32) }
     ensures { result ≡ held_at used.now stop.now area unit }
 {
     let at = unit as usize;
     if !is_start(used, stop, at) {
-        return Held::NoSpan;
+        return Err(NotHeld::NoSpan);
     }
     let last = bits::index::bit_vector_index_of(stop, at, true);
     if (area as usize) <= last {
-        return Held::NoStop;
+        return Err(NotHeld::NoStop);
     }
-    Held::Range(unit, last as u32 + 1)
+    Ok(UnitRange {
+        from: unit,
+        to: last as u32 + 1,
+    })
 }
 
 // Finds the span that starts at an address of a block whose units have `unit` bytes.
-fn held_of(b: Block, used: &[u32], stop: &[u32], w: usize, unit: u64, address: u64) -> Held
+fn held_of(b: Block, used: &[u32], stop: &[u32], w: usize, unit: u64, address: u64) -> Result<UnitRange, NotHeld>
     requires { Placed b w (length used.now) (length stop.now) × AddressIn b unit address }
     ensures { result ≡ held_of w b unit used.now stop.now address }
 {
     let offset = address - b.base;
     if offset % unit != 0 {
-        return Held::NoSpan;
+        return Err(NotHeld::NoSpan);
     }
     let at = numbers::area_size_from_byte_size(offset, unit);
     let slot = b.slot;
@@ -74,7 +77,7 @@ fn held_of(b: Block, used: &[u32], stop: &[u32], w: usize, unit: u64, address: u
 }
 
 // Finds the span that starts at an address of the block of age `j`.
-pub fn held_in(s: State, used: &[u32], stop: &[u32], j: usize, address: u64) -> Held
+pub fn held_in(s: State, used: &[u32], stop: &[u32], j: usize, address: u64) -> Result<UnitRange, NotHeld>
     requires { InTable s j × Placed (block_at s j) s.w (length used.now) (length stop.now) × AddressIn (block_at s j) (unit_of s (block_at s j)) address }
     ensures { result ≡ held_in s used.now stop.now address j }
 {

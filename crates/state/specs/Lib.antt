@@ -4,3 +4,4 @@ pub mod Find
 pub mod Change
 pub mod Outcome
 pub mod InTable
+pub mod Held

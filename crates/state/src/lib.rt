@@ -5,6 +5,7 @@ ghost use Rattle.std.specs.Prelude.{◌≡◌, ◌<◌};
 ghost use Rattle.sizes.specs.Limits.{slot_limit};
 ghost use Rattle.state.specs.Table.{zero_block, zero_state, block_at, pool_at};
 ghost use Rattle.state.specs.Outcome.{refusal, refusal_of};
+ghost use Rattle.state.specs.Held.{refusal_of};
 
 use block::Block;
 use sizes::{Pool, SizeError};
@@ -106,12 +107,29 @@ pub enum Answer {
     Refused(Refusal),
 }
 
-// What starts at an address of a block: no span; one that has no stop bit; or a span, from its first unit up to its end.
+// Units of a block, from the first one up to the end.
 #[derive(Clone, Copy)]
-pub enum Held {
+pub struct UnitRange {
+    pub from: u32,
+    pub to: u32,
+}
+
+// Why an address of a block holds no span: none starts there, or the one that does has no stop bit.
+#[derive(Clone, Copy)]
+pub enum NotHeld {
     NoSpan,
     NoStop,
-    Range(u32, u32),
+}
+
+impl From<NotHeld> for Refusal {
+    ghost from_gives = { λ why refusal. refusal ≡ refusal_of why };
+
+    fn from(why: NotHeld) -> Refusal {
+        match why {
+            NotHeld::NoSpan => Refusal::InvalidArgument,
+            NotHeld::NoStop => Refusal::Damaged,
+        }
+    }
 }
 
 // A place that a search of a pool found: a block's age and a unit in it.

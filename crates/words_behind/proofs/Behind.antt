@@ -1,5 +1,5 @@
 -- Every call on a state: words from slots times W on are neither read nor written. Assumes nothing.
-use Rattle.std.specs.Prelude.{Option, Some, None}
+use Rattle.std.specs.Prelude.{Option, Some, None, Ok, Err}
 use Prim.Native.Nat.{ℕ, ◌-◌, ◌*◌, ◌≤◌, ◌<◌}
 use mathlib.Core.Bool.{Bool, true, false, ◌||◌}
 use mathlib.Core.List.{List, ◌++◌}
@@ -16,8 +16,7 @@ use Rattle.std.specs.declared.result.Result.{Result}
 use Rattle.std.specs.declared.result.Result.TheVariants.{Ok, Err}
 use Rattle.sizes.specs.Sizes.{rounded, ideal_size}
 use Rattle.state.specs.declared.State.{State}
-use Rattle.state.specs.declared.Held.{Held}
-use Rattle.state.specs.declared.Held.TheVariants.{NoSpan, NoStop, Range}
+use Rattle.state.specs.Held.{Held}
 use Rattle.state.specs.declared.Hit.{Hit}
 use Rattle.state.specs.declared.Hit.TheVariants.{At, Nowhere}
 use Rattle.state.specs.declared.Searched.{Searched}
@@ -66,9 +65,8 @@ module _ (s : State) (u t v v' : List ℕ) (z : Sized s) (room : s.slots * s.w �
   -- ---- query
   module _ (a : ℕ) where
     shown_behind : (j : ℕ) (h : Held) → query_held s (u ++ v) (t ++ v') a j h ≡ behind (query_held s u t a j h) v v'
-    shown_behind j NoSpan = refl
-    shown_behind j NoStop = refl
-    shown_behind j (Range i e) = refl
+    shown_behind j (Err why) = refl
+    shown_behind j (Ok units) = refl
 
     queried_behind : Good → (f : Option ℕ) → lookup s a ≡ f → query_found s (u ++ v) (t ++ v') a f ≡ behind (query_found s u t a f) v v'
     queried_behind good None e = refl
@@ -99,9 +97,10 @@ module _ (s : State) (u t v v' : List ℕ) (z : Sized s) (room : s.slots * s.w �
         ∙ settle_behind m.used m.stop v v' answer x j (subst (λ (k : ℕ). Room m.used m.stop v v' w k) (sym same) kept)
 
     released_behind : Good → (j : ℕ) → lookup s a ≡ Some j → (h : Held) → release_held s (u ++ v) (t ++ v') a j h ≡ behind (release_held s u t a j h) v v'
-    released_behind good j f NoSpan = refl
-    released_behind good j f NoStop = refl
-    released_behind good j f (Range i e) =
+    released_behind good j f (Err why) = refl
+    released_behind good j f (Ok units) =
+        let i = units.from in
+        let e = units.to in
         pick_behind v v' (ltb (block_at s j).used (e - i) || eqb s.live 0) _ _ (refuse Damaged s u t) (release_units s u t a j i e) refl (freed_behind good j f i e)
 
     given_back_behind : Good → (f : Option ℕ) → lookup s a ≡ f → release_found s (u ++ v) (t ++ v') a f ≡ behind (release_found s u t a f) v v'
@@ -124,9 +123,10 @@ module _ (s : State) (u t v v' : List ℕ) (z : Sized s) (room : s.slots * s.w �
           (cut_behind u t v v' s a j i e n (found_room good a j f)))
 
       shrunk_behind : Good → (j : ℕ) → lookup s a ≡ Some j → (h : Held) → shrink_held s (u ++ v) (t ++ v') a size j h ≡ behind (shrink_held s u t a size j h) v v'
-      shrunk_behind good j f NoSpan = refl
-      shrunk_behind good j f NoStop = refl
-      shrunk_behind good j f (Range i e) =
+      shrunk_behind good j f (Err why) = refl
+      shrunk_behind good j f (Ok units) =
+          let i = units.from in
+          let e = units.to in
           let n = units_of size (unit_of s (block_at s j)) in
           pick_behind v v' (ltb (block_at s j).used (e - i)) _ _ (refuse Damaged s u t) (shrink_units s u t a j i e n) refl (units_behind good j f i e n)
 

@@ -1,4 +1,5 @@
 -- Each turn on maps with more words behind them: the same turn, with those words behind. Assumes nothing.
+use Rattle.std.specs.Prelude.{Err}
 use Prim.Native.Nat.{ℕ, zero, suc, ◌+◌, ◌-◌, ◌*◌, ◌/◌, ◌%◌, ◌≤◌, ◌<◌}
 use mathlib.Core.Bool.{Bool, true, false, not, ◌||◌}
 use mathlib.Core.List.{List, ◌++◌}
@@ -17,8 +18,8 @@ use Rattle.block.specs.declared.Looked.TheVariants.{Found, Missed}
 use Rattle.block.specs.Marking.{fresh}
 use Rattle.block.specs.Search.{look_into}
 use Rattle.state.specs.declared.State.{State}
-use Rattle.state.specs.declared.Held.{Held}
-use Rattle.state.specs.declared.Held.TheVariants.{NoSpan}
+use Rattle.state.specs.declared.NotHeld.TheVariants.{NoSpan}
+use Rattle.state.specs.Held.{Held}
 use Rattle.state.specs.declared.Answer.{Answer}
 use Rattle.state.specs.declared.Refusal.TheVariants.{BadShape}
 use Rattle.state.specs.Table.{zero_block, block_at, pool_at}
@@ -78,7 +79,7 @@ module _ (u t v v' : List ℕ) where
       ap₂ (λ (x y : List ℕ). held x y) (slot_behind s.w (block_at s j).slot u v r.0) (slot_behind s.w (block_at s j).slot t v' r.1)
     where
       held : List ℕ → List ℕ → Held
-      held x y = pick (eqb ((a - (block_at s j).base) % unit_of s (block_at s j)) 0) (held_at x y (block_at s j).area ((a - (block_at s j).base) / unit_of s (block_at s j))) NoSpan
+      held x y = pick (eqb ((a - (block_at s j).base) % unit_of s (block_at s j)) 0) (held_at x y (block_at s j).area ((a - (block_at s j).base) / unit_of s (block_at s j))) (Err NoSpan)
 
   -- ---- marking
   pub mark_behind : (s : State) (j i n : ℕ) → Room s.w (block_at s j).slot → alloc_marked s (u ++ v) (t ++ v') j i n ≡ behind (alloc_marked s u t j i n) v v'

@@ -20,34 +20,34 @@ use Rattle.release.proofs.free_units.Goals as goal
 
 painting : (c : After-mark_released_area-less) → let a = c.args in
     painted c.mark_released_area-less.result c.mark_released_area-less.new.used c.mark_released_area-less.new.stop
-    ≡ mark_released a.s.w (block_at a.s a.j) a.from a.to a.used.now a.stop.now
+    ≡ mark_released a.s.w (block_at a.s a.j) a.units.from a.units.to a.used.now a.stop.now
 painting c =
     let a = c.args in
-    c.mark_released_area-less.ensures ∙ ap (λ (b : Block). mark_released a.s.w b a.from a.to a.used.now a.stop.now) c.block_at-b.ensures
+    c.mark_released_area-less.ensures ∙ ap (λ (b : Block). mark_released a.s.w b a.units.from a.units.to a.used.now a.stop.now) c.block_at-b.ensures
 
 -- the record is what marking leaves
-less : (c : After-mark_released_area-less) → let a = c.args in c.mark_released_area-less.result ≡ released (block_at a.s a.j) a.from a.to
+less : (c : After-mark_released_area-less) → let a = c.args in c.mark_released_area-less.result ≡ released (block_at a.s a.j) a.units.from a.units.to
 less c = ap (λ (p : Painted). p.block) (painting (c))
 
 stays : (c : After-mark_released_area-less) → let a = c.args in Stays c.mark_released_area-less.result (block_at a.s a.j)
-stays c = let a = c.args in subst (λ (b : Block). Stays b (block_at a.s a.j)) (sym (less (c))) (released_stays (block_at a.s a.j) a.from a.to)
+stays c = let a = c.args in subst (λ (b : Block). Stays b (block_at a.s a.j)) (sym (less (c))) (released_stays (block_at a.s a.j) a.units.from a.units.to)
 
 pub block_at-b-requires : goal.block_at-b-requires
-block_at-b-requires c = let a = c.args in omega (arith, c.requires.shaped.1, count_64 a.s (length a.used.now) (length a.stop.now) c.requires.shaped.0)
+block_at-b-requires c = let a = c.args in omega (arith, c.requires.stands, count_64 a.s (length a.used.now) (length a.stop.now) c.requires.shaped)
 
 pub mark_released_area-less-requires : goal.mark_released_area-less-requires
 mark_released_area-less-requires c =
     let a = c.args in
     rw c.block_at-b.ensures (
-      placed a.s (length a.used.now) (length a.stop.now) c.requires.shaped.0 a.j c.requires.shaped.1,
-      c.requires.shaped.2,
-      c.requires.from_bound.0,
+      placed a.s (length a.used.now) (length a.stop.now) c.requires.shaped a.j c.requires.stands,
+      c.requires.in_block,
+      c.requires.counted,
     )
 
 pub less_used-r-requires : goal.less_used-r-requires
 less_used-r-requires c =
     let a = c.args in
-    let p = less_ready a.s (length a.used.now) (length a.stop.now) c.requires.shaped.0 a.j c.requires.shaped.1 (a.to - a.from) c.requires.from_bound.0 in
+    let p = less_ready a.s (length a.used.now) (length a.stop.now) c.requires.shaped a.j c.requires.stands (a.to - a.from) c.requires.counted in
     record { in_table = p.0; counted = p.1 }
 
 -- whatever the live count is
@@ -55,13 +55,13 @@ settles : (c : After-less_used-r) (live : ℕ) → let m = c.mark_released_area-
     → Settles (with_live c.less_used-r.result live) c.args.j (length m.new.used) (length m.new.stop)
 settles c live st =
     let a = c.args in
-    let f = c.requires.shaped.0 in
-    let h = c.requires.shaped.1 in
+    let f = c.requires.shaped in
+    let h = c.requires.stands in
     let p = placed a.s (length a.used.now) (length a.stop.now) f a.j h in
     let m = c.mark_released_area-less in
     subst (λ (r : State). Settles (with_live r live) a.j (length m.new.used) (length m.new.stop)) (sym c.less_used-r.ensures)
     (settles_after a.s (length a.used.now) (length a.stop.now) f a.j h (blocks_64 a.s _ c.well_formed.0) (order_64 a.s _ c.well_formed.0)
-    (lengths.pool_3 a.s _ c.well_formed.0) m.result (a.to - a.from) live st (length m.new.used) (length m.new.stop)
+    (lengths.pool_3 a.s _ c.well_formed.0) m.result (a.units.to - a.units.from) live st (length m.new.used) (length m.new.stop)
     (omega (arith, p.room)) (omega (arith, p.stop_room)))
 
 pub settle-requires : goal.settle-requires
@@ -74,7 +74,7 @@ returns c = λ x.
     let live = a.s.live - 1 in
     c.settle.ensures x
     ∙ ap (λ (r : State). settle x (with_live r live) m.new.used m.new.stop a.j) c.less_used-r.ensures
-    ∙ ap (λ (p : Painted). settle x (with_live (less_used a.s a.j p.block (a.to - a.from)) live) p.used p.stop a.j) (painting (goal.at.returns c).After-mark_released_area-less)
+    ∙ ap (λ (p : Painted). settle x (with_live (less_used a.s a.j p.block (a.units.to - a.units.from)) live) p.used p.stop a.j) (painting (goal.at.returns c).After-mark_released_area-less)
 
 pub overflow_sub-r : goal.overflow_sub-r
-overflow_sub-r c = omega (arith, c.requires.from_bound.1)
+overflow_sub-r c = omega (arith, c.requires.some_live)
