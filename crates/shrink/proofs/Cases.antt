@@ -12,9 +12,8 @@ use Rattle.numbers.proofs.Units.{units-le}
 use Rattle.state.specs.declared.State.{State}
 use Rattle.state.specs.Held.{range}
 use Rattle.state.specs.declared.Refusal.TheVariants.{InvalidState, Damaged}
-use Rattle.state.specs.declared.Answer.TheVariants.{Shrunk}
 use Rattle.state.specs.Table.{block_at}
-use Rattle.machine.specs.Turn.{turn, refuse, span, unit_of}
+use Rattle.machine.specs.Turn.{refuse, unit_of}
 use Rattle.machine.specs.Release.{release_turn}
 use Rattle.machine.specs.Shrink.{shrink_tail, shrink_units, shrink_held, shrink_turn}
 
@@ -30,9 +29,6 @@ module _ (size unit : ℕ) (some : 0 < unit) where
 module _ (s : State) (u t : List ℕ) (a j i e n : ℕ) where
   pub more_units : ltb (e - i) n ≡ true → refuse InvalidState s u t ≡ shrink_units s u t a j i e n
   more_units z = rw z
-
-  pub same_units : ltb (e - i) n ≡ false → eqb n (e - i) ≡ true → turn (Shrunk (span a (bytes_of n (unit_of s (block_at s j))))) s u t ≡ shrink_units s u t a j i e n
-  same_units y z = rw (y, z)
 
   pub fewer_units : ltb (e - i) n ≡ false → eqb n (e - i) ≡ false → shrink_tail s u t a j i e n ≡ shrink_units s u t a j i e n
   fewer_units y z = rw (y, z)

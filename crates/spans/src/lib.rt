@@ -29,16 +29,10 @@ fn is_start(used: &[u32], stop: &[u32], unit: usize) -> bool
     requires { (unit < 32 * length used.now) × (unit < 32 * length stop.now) }
     ensures { result ≡ starts used.now stop.now unit }
 {
-    if !bits::bit_vector_get_bit(used, unit) {
-        return false;
-    }
-    if unit == 0 {
-        return true;
-    }
-    if !bits::bit_vector_get_bit(used, unit - 1) {
-        return true;
-    }
-    bits::bit_vector_get_bit(stop, unit - 1)
+    bits::bit_vector_get_bit(used, unit)
+        && (unit == 0
+            || !bits::bit_vector_get_bit(used, unit - 1)
+            || bits::bit_vector_get_bit(stop, unit - 1))
 }
 
 // Finds the span that starts at a unit of a block, given the block's words.
@@ -61,7 +55,14 @@ fn held_at(used: &[u32], stop: &[u32], area: u32, unit: u32) -> Result<UnitRange
 }
 
 // Finds the span that starts at an address of a block whose units have `unit` bytes.
-fn held_of(b: Block, used: &[u32], stop: &[u32], w: usize, unit: u64, address: u64) -> Result<UnitRange, NotHeld>
+fn held_of(
+    b: Block,
+    used: &[u32],
+    stop: &[u32],
+    w: usize,
+    unit: u64,
+    address: u64,
+) -> Result<UnitRange, NotHeld>
     requires { Placed b w (length used.now) (length stop.now) × AddressIn b unit address }
     ensures { result ≡ held_of w b unit used.now stop.now address }
 {
@@ -77,7 +78,13 @@ fn held_of(b: Block, used: &[u32], stop: &[u32], w: usize, unit: u64, address: u
 }
 
 // Finds the span that starts at an address of the block of age `j`.
-pub fn held_in(s: State, used: &[u32], stop: &[u32], j: usize, address: u64) -> Result<UnitRange, NotHeld>
+pub fn held_in(
+    s: State,
+    used: &[u32],
+    stop: &[u32],
+    j: usize,
+    address: u64,
+) -> Result<UnitRange, NotHeld>
     requires { InTable s j × Placed (block_at s j) s.w (length used.now) (length stop.now) × AddressIn (block_at s j) (unit_of s (block_at s j)) address }
     ensures { result ≡ held_in s used.now stop.now address j }
 {
