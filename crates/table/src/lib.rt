@@ -24,27 +24,21 @@ pub fn newest_size(s: State, pool: usize) -> u64
         .map_or(s.size, |b| b.size)
 }
 
-// Finds the block that holds an address: binary search over the address order.
+// Finds the block that holds an address: of those that start at or before it, the last one by address, if it ends after it.
 pub fn lookup_block(s: State, address: u64) -> Option<usize>
     requires { Ordered s }
     ensures { result ≡ lookup s address }
 {
-    let mut low: usize = 0;
-    let mut high = s.count;
-    while low < high {
-        let mid = low + (high - low) / 2;
-        let i = s.order[mid];
-        let b = s.blocks[i];
-        if address < b.base {
-            high = mid;
-        } else {
-            if address - b.base < b.size {
-                return Some(i);
-            }
-            low = mid + 1;
-        }
+    let order = &s.order[..s.count];
+    // `partition_point` asks for a test of any number, so this one minds the table's limit.
+    let started = order.partition_point(|&i| i < state::SLOT_LIMIT && s.blocks[i].base <= address);
+    let i = *order[..started].last()?;
+    let b = s.blocks[i];
+    if address - b.base < b.size {
+        Some(i)
+    } else {
+        None
     }
-    None
 }
 
 // Returns which slots the blocks have.
