@@ -6,7 +6,7 @@ ghost use Rattle.std.specs.Prelude.{◌≡◌, [], ◌∷◌, ◌+◌, ◌≤◌
 ghost use Rattle.machine.specs.Turn.{number};
 ghost use Rattle.text.specs.Line.{line};
 ghost use Rattle.text.specs.Put.{Puts};
-ghost use Rattle.lines.specs.Lines.{span, answer_line};
+ghost use Rattle.lines.specs.Lines.{answer_line};
 ghost use Rattle.lines.specs.Last.{used_units, end_line, bad_line, Finishes};
 
 use state::{Answer, Refusal, Span, State};
@@ -25,41 +25,32 @@ pub fn refusal_number(why: Refusal) -> u64
 }
 
 fn put_span(out: &mut [u8], at: usize, word: &[u8], x: Span) -> usize
-    requires { (at + 80 ≤ length out.old) × (length word.now ≤ 8) }
+    requires room { at + 80 ≤ length out.old }
+    requires short_word { length word.now ≤ 8 }
     ensures { Puts out.old at (line word.now (x.address ∷ x.size ∷ [])) out.new result }
 {
-    text::put_line2(out, at, word, x.address, x.size)
+    text::put_line(out, at, word, &[x.address, x.size])
 }
 
-// Writes an answer's line.
+// Writes an answer's line: a query's is like an allocation's.
+#[tactic(auto, unfolding(crate::specs::Lines::answer_line))]
 pub fn put_answer(out: &mut [u8], at: usize, answer: Answer) -> usize
     requires { at + 80 ≤ length out.old }
     ensures { Puts out.old at (answer_line answer) out.new result }
 {
     match answer {
-        Answer::Created(size, granularity, poolcount) => text::put_line3(
+        Answer::Created(size, granularity, poolcount) => text::put_line(
             out,
             at,
             b"created",
-            size,
-            granularity,
-            poolcount as u64,
+            &[size, granularity, poolcount as u64],
         ),
-        Answer::Granted(x) => put_granted(out, at, x),
-        Answer::Shown(x) => put_granted(out, at, x),
+        Answer::Granted(x) | Answer::Shown(x) => put_span(out, at, b"span", x),
         Answer::Released(x) => put_span(out, at, b"released", x),
         Answer::Shrunk(x) => put_span(out, at, b"shrunk", x),
-        Answer::Reset => text::put_line0(out, at, b"reset"),
-        Answer::Refused(why) => text::put_line1(out, at, b"refused", refusal_number(why)),
+        Answer::Reset => text::put_line(out, at, b"reset", &[]),
+        Answer::Refused(why) => text::put_line(out, at, b"refused", &[refusal_number(why)]),
     }
-}
-
-// Writes a granted span: a query's line is like an allocation's.
-fn put_granted(out: &mut [u8], at: usize, x: Span) -> usize
-    requires { at + 80 ≤ length out.old }
-    ensures { Puts out.old at (line span (x.address ∷ x.size ∷ [])) out.new result }
-{
-    put_span(out, at, b"span", x)
 }
 
 // ---- the last line
@@ -67,34 +58,35 @@ fn put_granted(out: &mut [u8], at: usize, x: Span) -> usize
 fn used_units(s: State) -> u64
     ensures { result ≡ used_units s }
 {
-    let a = s.pools[0];
-    let b = s.pools[1];
-    let c = s.pools[2];
-    a.used as u64 + b.used as u64 + c.used as u64
+    let [a, b, c] = s.pools;
+    u64::from(a.used) + u64::from(b.used) + u64::from(c.used)
 }
 
 // Writes the last line of a trace whose records are all good.
+#[tactic(auto, unfolding(crate::specs::Last::end_line))]
 fn put_end(out: &mut [u8], at: usize, s: State) -> usize
     requires { at + 80 ≤ length out.old }
     ensures { Puts out.old at (end_line s) out.new result }
 {
     let units = used_units(s);
-    text::put_line3(out, at, b"end", s.live, s.count as u64, units)
+    text::put_line(out, at, b"end", &[s.live, s.count as u64, units])
 }
 
 // Writes the last line of a trace with a bad record at `offset`.
+#[tactic(auto, unfolding(crate::specs::Last::bad_line))]
 fn put_bad(out: &mut [u8], at: usize, offset: u64) -> usize
     requires { at + 80 ≤ length out.old }
     ensures { Puts out.old at (bad_line offset) out.new result }
 {
-    text::put_line1(out, at, b"bad", offset)
+    text::put_line(out, at, b"bad", &[offset])
 }
 
 // Writes the last line after `offset` bytes were played and `left` bytes remain that are no whole good record. If `out` has no room for a
 // line, it writes nothing.
+#[tactic(auto, using(crate::proofs::Last::end_most, crate::proofs::Last::bad_most))]
 pub fn finish(s: State, offset: u64, left: usize, out: &mut [u8]) -> usize
     ensures finishes { Finishes s offset left out.old out.new result }
-    ensures upper_bound { result ≤ length out.old }
+    ensures within { result ≤ length out.old }
 {
     if out.len() < text::LINE {
         return 0;

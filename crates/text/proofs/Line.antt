@@ -1,30 +1,24 @@
--- A line, as it is put together. Assumes nothing.
-use Prim.Native.Nat.{ℕ}
-use mathlib.Core.List.{List, [], ◌∷◌, ◌++◌, append_assoc}
-use mathlib.Core.Path.{◌≡◌, subst}
+-- A line, one number more at a time. Assumes nothing.
+use Prim.Native.Nat.{ℕ, ◌+◌, ◌≤◌, ◌<◌}
+use mathlib.Core.List.{List, [], ◌∷◌, ◌++◌, append_assoc, append-nil}
+use mathlib.Core.Path.{◌≡◌, refl, sym, ap, ◌∙◌}
+use native.Mathlib.Numerals.{add-one}
+use lib.ListN.{length, take, get_or}
+use lib.Seq.{take_all, take-suc}
 use Rattle.text.specs.Decimal.{decimal}
-use Rattle.text.specs.Line.{line}
-use Rattle.text.specs.Put.{Puts}
-use Rattle.text.proofs.Put.{join}
+use Rattle.text.specs.Line.{spaced, line}
 
-one : (w : List ℕ) (a : ℕ) → (w ++ (32 ∷ decimal a)) ++ (10 ∷ []) ≡ line w (a ∷ [])
-one w a = simp append_assoc
+spaced-append : (ms ns : List ℕ) → spaced (ms ++ ns) ≡ spaced ms ++ spaced ns
+spaced-append [] ns = refl
+spaced-append (m ∷ ms) ns = ap (λ (l : List ℕ). (32 ∷ decimal m) ++ l) (spaced-append ms ns) ∙ sym (append_assoc (32 ∷ decimal m) (spaced ms) (spaced ns))
 
-two : (w : List ℕ) (a b : ℕ) → ((w ++ (32 ∷ decimal a)) ++ (32 ∷ decimal b)) ++ (10 ∷ []) ≡ line w (a ∷ b ∷ [])
-two w a b = simp append_assoc
+pub one_more : (word ns : List ℕ) (i : ℕ) → i < length ns
+    → (word ++ spaced (take i ns)) ++ (32 ∷ decimal (get_or ns i 0)) ≡ word ++ spaced (take (i + 1) ns)
+one_more word ns i h =
+    append_assoc word (spaced (take i ns)) (32 ∷ decimal (get_or ns i 0))
+    ∙ ap (λ (l : List ℕ). word ++ (spaced (take i ns) ++ l)) (sym (append-nil (32 ∷ decimal (get_or ns i 0))))
+    ∙ ap (λ (l : List ℕ). word ++ l) (sym (spaced-append (take i ns) (get_or ns i 0 ∷ [])))
+    ∙ ap (λ (l : List ℕ). word ++ spaced l) (sym (take-suc ns i 0 h) ∙ ap (λ (k : ℕ). take k ns) (sym (add-one i)))
 
-three : (w : List ℕ) (a b c : ℕ) → (((w ++ (32 ∷ decimal a)) ++ (32 ∷ decimal b)) ++ (32 ∷ decimal c)) ++ (10 ∷ []) ≡ line w (a ∷ b ∷ c ∷ [])
-three w a b c = simp append_assoc
-
-pub line1 : (w : List ℕ) (a : ℕ) {l m n o : List ℕ} {at i j k : ℕ} → Puts l at w m i → Puts m i (32 ∷ decimal a) n j → Puts n j (10 ∷ []) o k
-    → Puts l at (line w (a ∷ [])) o k
-line1 w a {l} {m} {n} {o} {at} {i} {j} {k} p q r = subst (λ (bs : List ℕ). Puts l at bs o k) (one w a) (join (join p q) r)
-
-pub line2 : (w : List ℕ) (a b : ℕ) {l m n o x : List ℕ} {at i j k e : ℕ} → Puts l at w m i → Puts m i (32 ∷ decimal a) n j
-    → Puts n j (32 ∷ decimal b) o k → Puts o k (10 ∷ []) x e → Puts l at (line w (a ∷ b ∷ [])) x e
-line2 w a b {l} {m} {n} {o} {x} {at} {i} {j} {k} {e} p q r s = subst (λ (bs : List ℕ). Puts l at bs x e) (two w a b) (join (join (join p q) r) s)
-
-pub line3 : (w : List ℕ) (a b c : ℕ) {l m n o x y : List ℕ} {at i j k e f : ℕ} → Puts l at w m i → Puts m i (32 ∷ decimal a) n j
-    → Puts n j (32 ∷ decimal b) o k → Puts o k (32 ∷ decimal c) x e → Puts x e (10 ∷ []) y f → Puts l at (line w (a ∷ b ∷ c ∷ [])) y f
-line3 w a b c {l} {m} {n} {o} {x} {y} {at} {i} {j} {k} {e} {f} p q r s t =
-    subst (λ (bs : List ℕ). Puts l at bs y f) (three w a b c) (join (join (join (join p q) r) s) t)
+pub whole : (word ns : List ℕ) (i : ℕ) → length ns ≤ i → (word ++ spaced (take i ns)) ++ (10 ∷ []) ≡ line word ns
+whole word ns i h = append_assoc word (spaced (take i ns)) (10 ∷ []) ∙ ap (λ (l : List ℕ). word ++ (spaced l ++ (10 ∷ []))) (take_all i ns h)

@@ -1,12 +1,12 @@
 -- Bytes written one behind the other. Assumes nothing.
-use Prim.Native.Nat.{ℕ, suc, ◌+◌, ◌<◌}
-use mathlib.Core.List.{List, [], ◌∷◌, ◌++◌}
+use Prim.Native.Nat.{ℕ, suc, ◌+◌, ◌≤◌}
+use borrow.Rule.Slice.PartMut.{put_mid}
+use mathlib.Core.List.{List, [], ◌∷◌, ◌++◌, append_assoc}
 use mathlib.Core.Path.{◌≡◌, sym, ap, ◌∙◌}
 use native.Mathlib.Nat.{add-zero, add-suc, suc-add}
-use native.Mathlib.Numerals.{add-one}
 use native.Mathlib.Omega.{arith}
-use lib.ListN.{length, take, get_or, length-append}
-use lib.Seq.{sets, length-sets, take-suc}
+use lib.ListN.{length, take, drop, length-append}
+use lib.Seq.{sets, sets-eq, length-sets, drop-drop}
 use Rattle.text.specs.Put.{Puts}
 
 pub sets_append : (bs cs l : List ℕ) (i : ℕ) → sets (sets l i bs) (i + length bs) cs ≡ sets l i (bs ++ cs)
@@ -23,10 +23,8 @@ join {a} {bs} {b} {cs} {d} {at} {m} {e} p q = record {
   whole = q.whole ∙ ap (λ (l : List ℕ). sets l m cs) p.whole ∙ ap (λ (k : ℕ). sets (sets a at bs) k cs) p.place ∙ sets_append bs cs a at;
 }
 
--- one byte more of a run
-pub one_more : (bs l : List ℕ) (at i : ℕ) → i < length bs → lib.ListN.set (sets l at (take i bs)) (at + i) (get_or bs i 0) ≡ sets l at (take (i + 1) bs)
-one_more bs l at i h =
-    let n : length (take i bs) ≡ i = lib.Seq.length-take-le i bs (omega arith) in
-    ap (λ (k : ℕ). lib.ListN.set (sets l at (take i bs)) (at + k) (get_or bs i 0)) (sym n)
-    ∙ sets_append (take i bs) (get_or bs i 0 ∷ []) l at
-    ∙ ap (sets l at) (sym (take-suc bs i 0 h) ∙ ap (λ (k : ℕ). take k bs) (sym (add-one i)))
+-- a part of a list that was written as a whole
+pub part : (l bs : List ℕ) (at k : ℕ) → k ≡ length bs → at + length bs ≤ length l → put_mid at k l bs ≡ sets l at bs
+part l bs at k e h =
+    ap (λ (d : List ℕ). take at l ++ (bs ++ d)) (drop-drop k at l ∙ ap (λ (n : ℕ). drop (at + n) l) e)
+    ∙ sym (append_assoc (take at l) bs (drop (at + length bs) l)) ∙ sym (sets-eq bs l at h)

@@ -1,4 +1,4 @@
-// Writes text into lent bytes from an index on: bytes, decimal numbers, and lines of a word, none to three numbers and a line feed. Each
+// Writes text into lent bytes from an index on: bytes, decimal numbers, and lines of a word, at most three numbers and a line feed. Each
 // function returns the index after what it wrote.
 #![tactic(auto)]
 
@@ -11,12 +11,8 @@ pub fn put_bytes(out: &mut [u8], at: usize, bytes: &[u8]) -> usize
     requires { at + length bytes.now ≤ length out.old }
     ensures { Puts out.old at bytes.now out.new result }
 {
-    let mut i: usize = 0;
-    while i < bytes.len() {
-        out[at + i] = bytes[i];
-        i += 1;
-    }
-    at + i
+    out[at..at + bytes.len()].copy_from_slice(bytes);
+    at + bytes.len()
 }
 
 pub fn put_byte(out: &mut [u8], at: usize, byte: u8) -> usize
@@ -42,7 +38,8 @@ fn put_decimal(out: &mut [u8], at: usize, n: u64) -> usize
 // Writes a space and a number.
 pub fn put_number(out: &mut [u8], at: usize, n: u64) -> usize
     requires { at + 21 ≤ length out.old }
-    ensures { Puts out.old at (32 ∷ decimal n) out.new result × (result ≤ at + 21) }
+    ensures written { Puts out.old at (32 ∷ decimal n) out.new result }
+    ensures short { result ≤ at + 21 }
 {
     let first = put_byte(out, at, b' ');
     put_decimal(out, first, n)
@@ -53,40 +50,16 @@ pub fn put_number(out: &mut [u8], at: usize, n: u64) -> usize
 // The room that each line gets: no line is longer.
 pub const LINE: usize = 80;
 
-pub fn put_line0(out: &mut [u8], at: usize, word: &[u8]) -> usize
-    requires { (at + 80 ≤ length out.old) × (length word.now ≤ 8) }
-    ensures { Puts out.old at (line word.now []) out.new result }
+// Writes a word, numbers after one space each, and a line feed.
+pub fn put_line(out: &mut [u8], at: usize, word: &[u8], numbers: &[u64]) -> usize
+    requires room { at + 80 ≤ length out.old }
+    requires short_word { length word.now ≤ 8 }
+    requires few_numbers { length numbers.now ≤ 3 }
+    ensures { Puts out.old at (line word.now numbers.now) out.new result }
 {
-    let end = put_bytes(out, at, word);
-    put_byte(out, end, b'\n')
-}
-
-pub fn put_line1(out: &mut [u8], at: usize, word: &[u8], a: u64) -> usize
-    requires { (at + 80 ≤ length out.old) × (length word.now ≤ 8) }
-    ensures { Puts out.old at (line word.now (a ∷ [])) out.new result }
-{
-    let first = put_bytes(out, at, word);
-    let end = put_number(out, first, a);
-    put_byte(out, end, b'\n')
-}
-
-pub fn put_line2(out: &mut [u8], at: usize, word: &[u8], a: u64, b: u64) -> usize
-    requires { (at + 80 ≤ length out.old) × (length word.now ≤ 8) }
-    ensures { Puts out.old at (line word.now (a ∷ b ∷ [])) out.new result }
-{
-    let first = put_bytes(out, at, word);
-    let second = put_number(out, first, a);
-    let end = put_number(out, second, b);
-    put_byte(out, end, b'\n')
-}
-
-pub fn put_line3(out: &mut [u8], at: usize, word: &[u8], a: u64, b: u64, c: u64) -> usize
-    requires { (at + 80 ≤ length out.old) × (length word.now ≤ 8) }
-    ensures { Puts out.old at (line word.now (a ∷ b ∷ c ∷ [])) out.new result }
-{
-    let first = put_bytes(out, at, word);
-    let second = put_number(out, first, a);
-    let third = put_number(out, second, b);
-    let end = put_number(out, third, c);
+    let mut end = put_bytes(out, at, word);
+    for n in numbers {
+        end = put_number(out, end, *n);
+    }
     put_byte(out, end, b'\n')
 }
