@@ -1,13 +1,15 @@
 -- Laws of a filled run: its length, one byte more, and each byte. Assumes nothing.
 use Prim.Native.Nat.{ℕ, zero, suc, ◌+◌, ◌/◌, ◌%◌, ◌≤◌, ◌<◌, ◌^◌}
-use mathlib.Core.List.{List, [], ◌∷◌, ◌++◌}
+use mathlib.Core.List.{List, [], ◌∷◌, ◌++◌, append-nil}
 use mathlib.Core.Logic.{◌⊎◌, inl, inr, ⊎_elim}
 use mathlib.Core.Path.{◌≡◌, refl, sym, ap, ◌∙◌}
-use native.Mathlib.Nat.{eq-or-lt_of_le, le_of_suc-le-suc}
+use native.Mathlib.Nat.{zero-add, div-one, eq-or-lt_of_le, le_of_suc-le-suc}
 use native.Mathlib.Numerals.{add-one}
 use native.Mathlib.Omega.{arith}
 use lib.ListN.{length, set, get_or, length-append, get_or-append}
-use lib.Seq.{sets, length-sets, get_or_at}
+use lib.Seq.{sets, sets-eq, length-sets, get_or_at}
+use Rattle.std.specs.Int.{w32, to_le_bytes}
+use Rattle.std.proofs.lemmas.List.{drop_all}
 use Rattle.text.proofs.Put.{sets_append}
 use Rattle.image.proofs.Sets.{sets_out, sets_in}
 use Rattle.image.specs.Image.{pattern_byte, repeated, filled_at}
@@ -32,16 +34,27 @@ filled_none image at pattern = ap (sets image at) (repeated_none pattern)
 pub length_filled : (image : List ℕ) (at n pattern : ℕ) → length (filled_at image at n pattern) ≡ length image
 length_filled image at n pattern = length-sets image at (repeated pattern n)
 
--- a loop that goes up puts one byte more
-pub one_more : (image : List ℕ) (at n pattern : ℕ) → set (filled_at image at n pattern) (at + n) (pattern_byte pattern n) ≡ filled_at image at (n + 1) pattern
-one_more image at n pattern =
-    ap (λ (k : ℕ). set (filled_at image at n pattern) (at + k) (pattern_byte pattern n)) (sym (length_repeated pattern n))
-    ∙ sets_append (repeated pattern n) (pattern_byte pattern n ∷ []) image at
-    ∙ ap (sets image at) (sym (repeated_more pattern n))
+-- a loop over a run puts one byte more
+pub one_more : (run : List ℕ) (n pattern : ℕ) → set (filled_at run 0 n pattern) n (pattern_byte pattern n) ≡ filled_at run 0 (n + 1) pattern
+one_more run n pattern =
+    ap (λ (k : ℕ). set (filled_at run 0 n pattern) k (pattern_byte pattern n)) (sym (length_repeated pattern n) ∙ sym (zero-add (length (repeated pattern n))))
+    ∙ sets_append (repeated pattern n) (pattern_byte pattern n ∷ []) run 0
+    ∙ ap (sets run 0) (sym (repeated_more pattern n))
 
--- the byte of a place, by its remainder
-pub byte_at : (pattern i k : ℕ) → i % 4 ≡ k → pattern / 256 ^ k % 256 ≡ pattern_byte pattern i
-byte_at pattern i k e = ap (λ (j : ℕ). pattern / 256 ^ j % 256) (sym e)
+-- a run that is filled whole
+pub whole_run : (run : List ℕ) (n pattern : ℕ) → length run ≡ n → filled_at run 0 n pattern ≡ repeated pattern n
+whole_run run n pattern e =
+    let l = length_repeated pattern n in
+    sets-eq (repeated pattern n) run 0 (omega (arith, l))
+    ∙ ap (λ (d : List ℕ). repeated pattern n ++ d) (drop_all (0 + length (repeated pattern n)) run (omega (arith, l))) ∙ append-nil (repeated pattern n)
+
+-- the bytes of the pattern, lowest first
+pub byte_of : (pattern k : ℕ) → k < 4 → get_or (to_le_bytes w32 pattern) k 0 ≡ pattern / 256 ^ k % 256
+byte_of pattern zero h = ap (λ (m : ℕ). m % 256) (sym (div-one pattern))
+byte_of pattern (suc zero) h = refl
+byte_of pattern (suc (suc zero)) h = refl
+byte_of pattern (suc (suc (suc zero))) h = refl
+byte_of pattern (suc (suc (suc (suc k)))) h = absurd (omega arith)
 
 -- ---- each byte
 -- outside the run it stays
