@@ -1,8 +1,10 @@
 -- A run that takes no byte makes no call. Assumes nothing.
 use Rattle.std.proofs.Common.{ℕ, zero, suc, List, Bool, ◌≡◌, refl, sym, arith, ◌∙◌}
+use Rattle.std.specs.Prelude.{Result, Ok, Err}
 use Rattle.state.specs.declared.State.{State}
 use Rattle.records.specs.declared.Record.{Record}
-use Rattle.records.specs.declared.Record.TheVariants.{Cut, Bad, Whole}
+use Rattle.records.specs.declared.Unread.{Unread}
+use Rattle.records.specs.declared.Unread.TheVariants.{Cut, Bad}
 use Rattle.records.specs.Records.{record_of}
 use Rattle.records.proofs.Ways.{whole_size}
 use Rattle.trace.specs.Play.{after_record, play, Plays}
@@ -11,11 +13,11 @@ use Rattle.trace.specs.Play.{after_record, play, Plays}
 abbrev pub SameMaps : List ℕ → List ℕ → List ℕ → List ℕ → Type 0
 SameMaps u t v w = (v ≡ u) × (w ≡ t)
 
-by_record : (k : ℕ) (s : State) (u t bs : List ℕ) (r : Record) → record_of bs ≡ r → (after_record (play k) s u t bs r).taken ≡ 0
+by_record : (k : ℕ) (s : State) (u t bs : List ℕ) (r : Result Record Unread) → record_of bs ≡ r → (after_record (play k) s u t bs r).taken ≡ 0
     → SameMaps u t (after_record (play k) s u t bs r).used (after_record (play k) s u t bs r).stop
-by_record k s u t bs Cut e h = (refl, refl)
-by_record k s u t bs Bad e h = (refl, refl)
-by_record k s u t bs (Whole n c) e h = absurd (omega (arith, h, (whole_size n c bs e).0))
+by_record k s u t bs (Err Cut) e h = (refl, refl)
+by_record k s u t bs (Err Bad) e h = (refl, refl)
+by_record k s u t bs (Ok r) e h = absurd (omega (arith, h, (whole_size r bs e).0))
 
 none_taken : (k : ℕ) (s : State) (u t bs : List ℕ) → (play k s u t bs).taken ≡ 0 → SameMaps u t (play k s u t bs).used (play k s u t bs).stop
 unfolding play

@@ -4,7 +4,7 @@
 
 ghost use Rattle.std.specs.Prelude.{◌≡◌, ◌<◌, ◌≤◌, length, IfOk};
 
-use records::{Call, Record};
+use records::{Call, Record, Unread};
 use state::{Answer, Outcome, State};
 use std::io;
 use std::io::{ErrorKind, Read};
@@ -244,11 +244,11 @@ fn left(bytes: &[u8], taken: usize) -> usize {
     }
 }
 
-fn read(bytes: &[u8], taken: usize) -> Record {
+fn read(bytes: &[u8], taken: usize) -> Result<Record, Unread> {
     if taken < bytes.len() {
         return records::read(&bytes[taken..]);
     }
-    Record::Cut
+    Err(Unread::Cut)
 }
 
 fn play_all(
@@ -263,12 +263,11 @@ fn play_all(
     let mut k: u64 = 1;
     // bounds the loop: a trace that fits the buffer has fewer records
     while k < 65536 {
-        let found = read(bytes, taken);
-        let Record::Whole(n, c) = found else {
+        let Ok(record) = read(bytes, taken) else {
             return show_last(rt, state, taken as u64, left(bytes, taken));
         };
-        state = turn(rt, state, used, stop, image, k, c)?;
-        taken = std::num::wrapping_add_usize(taken, n);
+        state = turn(rt, state, used, stop, image, k, record.call)?;
+        taken = std::num::wrapping_add_usize(taken, record.length);
         k += 1;
     }
     Ok(())

@@ -1,2 +1,3 @@
 pub mod Bytes
+pub mod Kinds
 pub mod Records

@@ -1,8 +1,9 @@
 // Reads document 01's records from lent bytes.
 #![tactic(auto)]
 
-ghost use Rattle.std.specs.Prelude.{◌≡◌, ◌+◌, ◌≤◌, ◌<◌, length};
-ghost use Rattle.records.specs.Bytes.{u16_at, u32_at, u64_at};
+ghost use Rattle.std.specs.Prelude.{◌≡◌, ◌+◌, ◌≤◌, length, take, drop, None, MatchResult};
+ghost use Rattle.records.specs.declared.Unread.TheVariants.{Bad};
+ghost use Rattle.records.specs.Kinds.{number};
 ghost use Rattle.records.specs.Records.{payload_of, Holds, asked_of, call_of, record_of};
 
 // What a creation asks for.
@@ -27,67 +28,96 @@ pub enum Call {
     HardReset,
 }
 
-// What some bytes start with: too little to be a record, something that is none of document 01's, or a whole record: its length and call.
+// A whole record: how many bytes it takes, and the call that it asks for.
 #[derive(Clone, Copy)]
-pub enum Record {
-    Cut,
-    Bad,
-    Whole(usize, Call),
+pub struct Record {
+    pub length: usize,
+    pub call: Call,
 }
 
-// The payload length of a kind of record.
-#[derive(Clone, Copy)]
-pub enum Payload {
-    Bytes(usize),
-    Unknown,
+// Why no record can be read: there are too few bytes so far, or they start with none of document 01's records.
+#[derive(Clone, Copy, PartialEq, Eq)]
+pub enum Unread {
+    Cut,
+    Bad,
 }
 
 // The number of bytes before a payload: its length and the kind, two bytes each.
 pub const HEAD: usize = 4;
 
-// ---- little-endian numbers
-
-fn wide(byte: u8) -> u32
-    ensures { (result ≡ byte) × (result < 256) }
+// Returns the `N` bytes from `at` on.
+fn bytes_at<const N: usize>(bytes: &[u8], at: usize) -> [u8; N]
+    requires { at + N ≤ length bytes.now }
+    ensures { result ≡ take N (drop at bytes.now) }
 {
-    byte as u32
+    *bytes[at..].first_chunk().unwrap()
 }
 
-fn u16_at(bytes: &[u8], at: usize) -> u32
-    requires { at + 2 ≤ length bytes.now }
-    ensures { (result ≡ u16_at bytes.now at) × (result < 65536) }
-{
-    wide(bytes[at]) + 256 * wide(bytes[at + 1])
+// ---- kinds of records
+
+#[derive(Clone, Copy)]
+enum Kind {
+    Create,
+    Alloc,
+    Release,
+    Shrink,
+    Query,
+    SoftReset,
+    HardReset,
 }
 
-fn u32_at(bytes: &[u8], at: usize) -> u32
-    requires { at + 4 ≤ length bytes.now }
-    ensures { result ≡ u32_at bytes.now at }
-{
-    u16_at(bytes, at) + 65536 * u16_at(bytes, at + 2)
+impl TryFrom<u16> for Kind {
+    type Error = Unread;
+
+    ghost try_from_gives = { λ n r. MatchResult r (λ k. number k ≡ n) (λ e. (e ≡ Bad) × (payload_of n ≡ None)) };
+
+    #[tactic(auto, unfolding(crate::specs::Records::payload_of))]
+    fn try_from(n: u16) -> Result<Kind, Unread> {
+        match n {
+            1 => Ok(Kind::Create),
+            2 => Ok(Kind::Alloc),
+            3 => Ok(Kind::Release),
+            4 => Ok(Kind::Shrink),
+            5 => Ok(Kind::Query),
+            6 => Ok(Kind::SoftReset),
+            7 => Ok(Kind::HardReset),
+            _ => Err(Unread::Bad),
+        }
+    }
 }
 
-fn u64_at(bytes: &[u8], at: usize) -> u64
-    requires { at + 8 ≤ length bytes.now }
-    ensures { result ≡ u64_at bytes.now at }
-{
-    u32_at(bytes, at) as u64 + 4294967296 * u32_at(bytes, at + 4) as u64
-}
+impl Kind {
+    // Returns the length of this kind's payload.
+    #[tactic(auto, unfolding(crate::specs::Records::payload_of))]
+    fn payload(self) -> usize
+        ensures { payload_of (number self) ≡ Some result }
+    {
+        match self {
+            Kind::Create => 32,
+            Kind::Shrink => 16,
+            Kind::Alloc | Kind::Release | Kind::Query => 8,
+            Kind::SoftReset | Kind::HardReset => 0,
+        }
+    }
 
-// ---- records
-
-fn payload_of(kind: u32) -> Payload
-    ensures { result ≡ payload_of kind }
-{
-    match kind {
-        1 => Payload::Bytes(32),
-        2 => Payload::Bytes(8),
-        3 => Payload::Bytes(8),
-        4 => Payload::Bytes(16),
-        5 => Payload::Bytes(8),
-        6 => Payload::Bytes(0),
-        7 => Payload::Bytes(0),
-        _ => Payload::Unknown,
+    // Returns the call of a whole record of this kind.
+    #[tactic(auto, using(crate::proofs::Numbers::u64_of), unfolding(crate::specs::Records::payload_of, crate::specs::Records::call_of))]
+    fn call(self, bytes: &[u8]) -> Call
+        requires { Holds (payload_of (number self)) (length bytes.now) }
+        ensures { result ≡ call_of bytes.now (number self) }
+    {
+        match self {
+            Kind::Create => Call::Create(asked_of(bytes)),
+            Kind::Alloc => Call::Alloc(u64::from_le_bytes(bytes_at(bytes, 4))),
+            Kind::Release => Call::Release(u64::from_le_bytes(bytes_at(bytes, 4))),
+            Kind::Shrink => Call::Shrink(
+                u64::from_le_bytes(bytes_at(bytes, 4)),
+                u64::from_le_bytes(bytes_at(bytes, 12)),
+            ),
+            Kind::Query => Call::Query(u64::from_le_bytes(bytes_at(bytes, 4))),
+            Kind::SoftReset => Call::SoftReset,
+            Kind::HardReset => Call::HardReset,
+        }
     }
 }
 
@@ -95,57 +125,35 @@ fn asked_of(bytes: &[u8]) -> Asked
     requires { 36 ≤ length bytes.now }
     ensures { result ≡ asked_of bytes.now }
 {
-    let size = u32_at(bytes, 4);
-    let granularity = u32_at(bytes, 8);
-    let flags = u32_at(bytes, 12);
-    let w = u32_at(bytes, 16);
-    let arena = u64_at(bytes, 20);
-    let length = u64_at(bytes, 28);
     Asked {
-        size,
-        granularity,
-        flags,
-        w,
-        arena,
-        length,
-    }
-}
-
-// Returns the call of a whole record.
-fn call_of(bytes: &[u8], kind: u32) -> Call
-    requires { Holds (payload_of kind) (length bytes.now) }
-    ensures { result ≡ call_of bytes.now kind }
-{
-    match kind {
-        1 => Call::Create(asked_of(bytes)),
-        2 => Call::Alloc(u64_at(bytes, 4)),
-        3 => Call::Release(u64_at(bytes, 4)),
-        4 => Call::Shrink(u64_at(bytes, 4), u64_at(bytes, 12)),
-        5 => Call::Query(u64_at(bytes, 4)),
-        6 => Call::SoftReset,
-        _ => Call::HardReset,
+        size: u32::from_le_bytes(bytes_at(bytes, 4)),
+        granularity: u32::from_le_bytes(bytes_at(bytes, 8)),
+        flags: u32::from_le_bytes(bytes_at(bytes, 12)),
+        w: u32::from_le_bytes(bytes_at(bytes, 16)),
+        arena: u64::from_le_bytes(bytes_at(bytes, 20)),
+        length: u64::from_le_bytes(bytes_at(bytes, 28)),
     }
 }
 
 // Reads the record that the bytes start with. A wrong payload length is bad at once, even if not so many bytes are there.
-pub fn read(bytes: &[u8]) -> Record
+#[tactic(auto, using(crate::proofs::Numbers::u16_of), unfolding(crate::specs::Records::record_of))]
+pub fn read(bytes: &[u8]) -> Result<Record, Unread>
     ensures { result ≡ record_of bytes.now }
 {
     if bytes.len() < HEAD {
-        return Record::Cut;
+        return Err(Unread::Cut);
     }
-    let length = u16_at(bytes, 0);
-    let kind = u16_at(bytes, 2);
-    let payload = payload_of(kind);
-    let Payload::Bytes(n) = payload else {
-        return Record::Bad;
-    };
-    if length as usize != n {
-        return Record::Bad;
+    let kind = Kind::try_from(u16::from_le_bytes(bytes_at(bytes, 2)))?;
+    let payload = kind.payload();
+    if u16::from_le_bytes(bytes_at(bytes, 0)) as usize != payload {
+        return Err(Unread::Bad);
     }
-    let whole = HEAD + n;
-    if bytes.len() < whole {
-        return Record::Cut;
+    let length = HEAD + payload;
+    if bytes.len() < length {
+        return Err(Unread::Cut);
     }
-    Record::Whole(whole, call_of(bytes, kind))
+    Ok(Record {
+        length,
+        call: kind.call(bytes),
+    })
 }

@@ -1,5 +1,5 @@
 -- A run on its way: the lines so far, and the run of what is left. Assumes nothing.
-use Prim.Native.Nat.{ℕ, suc, ◌+◌, ◌-◌, ◌*◌, ◌/◌, ◌≤◌, ◌<◌}
+use Prim.Native.Nat.{ℕ, suc, ◌+◌, ◌*◌, ◌/◌, ◌≤◌}
 use mathlib.Core.Bool.{Bool, true, false}
 use mathlib.Core.List.{List, [], ◌++◌, append_assoc, append-nil}
 use mathlib.Core.Path.{◌≡◌, refl, sym, ap, subst, ◌∙◌}
@@ -7,11 +7,13 @@ use native.Mathlib.Nat.{div-mul-le_self}
 use native.Mathlib.Omega.{arith}
 use lib.ListN.{length, drop, length-drop}
 use lib.Seq.{drop-drop}
+use Rattle.std.specs.Prelude.{Ok, Err}
 use Rattle.state.specs.declared.State.{State}
 use Rattle.machine.specs.Turn.{Turn}
 use Rattle.machine.specs.Machine as machine
-use Rattle.records.specs.declared.Call.{Call}
-use Rattle.records.specs.declared.Record.TheVariants.{Cut, Bad, Whole}
+use Rattle.records.specs.declared.Record.{Record}
+use Rattle.records.specs.declared.Unread.{Unread}
+use Rattle.records.specs.declared.Unread.TheVariants.{Cut, Bad}
 use Rattle.records.specs.Records.{record_of}
 use Rattle.lines.specs.Lines.{answer_line}
 use Rattle.text.specs.Put.{Puts}
@@ -40,9 +42,6 @@ behind_two a n l m p =
     let e : a + (n + p.taken) ≡ a + n + p.taken = omega arith in
     ap (λ (k : ℕ). with p k (l ++ (m ++ p.lines))) e ∙ ap (with p (a + n + p.taken)) (sym (append_assoc l m p.lines))
 
-one_of : (left : ℕ) → 0 < left → left ≡ suc (left - 1)
-one_of left h = omega arith
-
 pub start : (k : ℕ) (s : State) (u t bs before : List ℕ) → k ≡ length before / 80 → Going (play (length before / 80) s u t bs) bs before k s u t 0 before 0
 start k s u t bs before e = record {
   lines = [];
@@ -52,9 +51,13 @@ start k s u t bs before e = record {
   room = omega (arith, e, div-mul-le_self (length before) 80);
 }
 
-pub first : (left : ℕ) (s : State) (u t ds : List ℕ) → 0 < left → play left s u t ds ≡ after_record (play (left - 1)) s u t ds (record_of ds)
+pub first : (k left : ℕ) (s : State) (u t ds : List ℕ) → left ≡ suc k → play left s u t ds ≡ after_record (play k) s u t ds (record_of ds)
 unfolding play
-first left s u t ds h = ap (λ (k : ℕ). play k s u t ds) (one_of left h)
+first k left s u t ds e = ap (λ (n : ℕ). play n s u t ds) e
+
+abbrev pub is_bad : Unread → Bool
+is_bad Cut = false
+is_bad Bad = true
 
 module _ {all : Run} {bs before : List ℕ} {left : ℕ} {s : State} {u t : List ℕ} {taken : ℕ} {out : List ℕ} {written : ℕ} where
   -- what is left comes to nothing more
@@ -74,24 +77,25 @@ module _ {all : Run} {bs before : List ℕ} {left : ℕ} {s : State} {u t : List
   unfolding play
   no_room e g = end_of false g (ap (λ (k : ℕ). play k s u t (drop taken bs)) e)
 
-  pub cut : 0 < left → record_of (drop taken bs) ≡ Cut → Going all bs before left s u t taken out written → Plays all before s u t taken false out written
-  cut h e g = end_of false g (first left s u t (drop taken bs) h ∙ ap (after_record (play (left - 1)) s u t (drop taken bs)) e)
+  -- a bad record, or one that is cut
+  pub ended : (k : ℕ) (why : Unread) → left ≡ suc k → record_of (drop taken bs) ≡ Err why → Going all bs before left s u t taken out written
+      → Plays all before s u t taken (is_bad why) out written
+  ended k Cut h e g = end_of false g (first k left s u t (drop taken bs) h ∙ ap (after_record (play k) s u t (drop taken bs)) e)
+  ended k Bad h e g = end_of true g (first k left s u t (drop taken bs) h ∙ ap (after_record (play k) s u t (drop taken bs)) e)
 
-  pub wrong : 0 < left → record_of (drop taken bs) ≡ Bad → Going all bs before left s u t taken out written → Plays all before s u t taken true out written
-  wrong h e g = end_of true g (first left s u t (drop taken bs) h ∙ ap (after_record (play (left - 1)) s u t (drop taken bs)) e)
-
-  -- a record of n bytes, whose call came to x
-  pub one_more : (n : ℕ) (c : Call) (x : Turn) (after : List ℕ) (end : ℕ) → 0 < left → record_of (drop taken bs) ≡ Whole n c
-      → x ≡ machine.step s u t (call_by c) → Puts out written (answer_line x.answer) after end → Going all bs before left s u t taken out written
-      → Going all bs before (left - 1) x.state x.used x.stop (taken + n) after end
-  one_more n c x after end h e q p g =
-      let rest : Turn → Run = λ y. prepended n (answer_line y.answer) (play (left - 1) y.state y.used y.stop (drop n (drop taken bs))) in record {
+  -- a record whose call came to x
+  pub one_more : (k : ℕ) (r : Record) (x : Turn) (after : List ℕ) (end : ℕ) → left ≡ suc k → record_of (drop taken bs) ≡ Ok r
+      → x ≡ machine.step s u t (call_by r.call) → Puts out written (answer_line x.answer) after end → Going all bs before left s u t taken out written
+      → Going all bs before k x.state x.used x.stop (taken + r.length) after end
+  one_more k r x after end h e q p g =
+      let n : ℕ = r.length in
+      let rest : Turn → Run = λ y. prepended n (answer_line y.answer) (play k y.state y.used y.stop (drop n (drop taken bs))) in record {
         lines = g.lines ++ answer_line x.answer;
         rest =
-            g.rest ∙ ap (prepended taken g.lines) (first left s u t (drop taken bs) h ∙ ap (after_record (play (left - 1)) s u t (drop taken bs)) e ∙ ap rest (sym q))
-            ∙ behind_two taken n g.lines (answer_line x.answer) (play (left - 1) x.state x.used x.stop (drop n (drop taken bs)))
-            ∙ ap (λ (ds : List ℕ). prepended (taken + n) (g.lines ++ answer_line x.answer) (play (left - 1) x.state x.used x.stop ds)) (drop-drop n taken bs);
+            g.rest ∙ ap (prepended taken g.lines) (first k left s u t (drop taken bs) h ∙ ap (after_record (play k) s u t (drop taken bs)) e ∙ ap rest (sym q))
+            ∙ behind_two taken n g.lines (answer_line x.answer) (play k x.state x.used x.stop (drop n (drop taken bs)))
+            ∙ ap (λ (ds : List ℕ). prepended (taken + n) (g.lines ++ answer_line x.answer) (play k x.state x.used x.stop ds)) (drop-drop n taken bs);
         put = join g.put p;
-        within = omega (arith, (whole_size n c (drop taken bs) e).1, length-drop taken bs, g.within);
+        within = omega (arith, (whole_size r (drop taken bs) e).1, length-drop taken bs, g.within);
         room = omega (arith, g.room, p.place, answer_most x.answer);
       }

@@ -8,12 +8,14 @@ use borrow.Author.Tests.{ne_eqb}
 use lib.ListN.{length, drop, length-drop, length-append}
 use Rattle.numbers.specs.Pick.{pick}
 use Rattle.numbers.proofs.Split.{by_le}
+use Rattle.std.specs.Prelude.{Result, Ok, Err}
 use Rattle.state.specs.declared.State.{State}
 use Rattle.state.specs.Table.{zero_state}
 use Rattle.machine.specs.Turn.{Turn}
 use Rattle.machine.specs.Machine as machine
 use Rattle.records.specs.declared.Record.{Record}
-use Rattle.records.specs.declared.Record.TheVariants.{Cut, Bad, Whole}
+use Rattle.records.specs.declared.Unread.{Unread}
+use Rattle.records.specs.declared.Unread.TheVariants.{Cut, Bad}
 use Rattle.records.specs.Records.{record_of}
 use Rattle.records.proofs.Ways.{no_head, whole_size}
 use Rattle.records.proofs.More.{Not-cut, record_more}
@@ -28,13 +30,13 @@ use Rattle.trace.proofs.Pieces.{all, pieces}
 abbrev pub from : State → List ℕ → List ℕ → ℕ → List ℕ → List ℕ
 from s u t o bs = (all s u t bs).lines ++ last_line (all s u t bs).state (o + (all s u t bs).taken) (length bs - (all s u t bs).taken)
 
-taken_by : (k : ℕ) (s : State) (u t bs : List ℕ) (r : Record) → record_of bs ≡ r
+taken_by : (k : ℕ) (s : State) (u t bs : List ℕ) (r : Result Record Unread) → record_of bs ≡ r
     → ((s : State) (u t ds : List ℕ) → (play k s u t ds).taken ≤ length ds) → (after_record (play k) s u t bs r).taken ≤ length bs
-taken_by k s u t bs Cut e f = omega arith
-taken_by k s u t bs Bad e f = omega arith
-taken_by k s u t bs (Whole n c) e f =
-    let x : Turn = machine.step s u t (call_by c) in
-    omega (arith, f x.state x.used x.stop (drop n bs), length-drop n bs, (whole_size n c bs e).1)
+taken_by k s u t bs (Err Cut) e f = omega arith
+taken_by k s u t bs (Err Bad) e f = omega arith
+taken_by k s u t bs (Ok r) e f =
+    let x : Turn = machine.step s u t (call_by r.call) in
+    omega (arith, f x.state x.used x.stop (drop r.length bs), length-drop r.length bs, (whole_size r bs e).1)
 
 taken_most : (k : ℕ) (s : State) (u t bs : List ℕ) → (play k s u t bs).taken ≤ length bs
 unfolding play
@@ -76,16 +78,16 @@ none_left s u t o bs b =
     let q : length bs - 0 ≡ length bs = omega arith in
     ap (λ (n : ℕ). last_line s n (length bs - 0)) p ∙ ap (last_line s o) q
 
-last_cut : (s : State) (u t : List ℕ) (o : ℕ) (bs : List ℕ) → record_of bs ≡ Cut → from s u t o bs ≡ last_line s o (length bs)
+last_cut : (s : State) (u t : List ℕ) (o : ℕ) (bs : List ℕ) → record_of bs ≡ Err Cut → from s u t o bs ≡ last_line s o (length bs)
 last_cut s u t o bs e = ap (ends o bs) (front s u t bs ∙ ap (after_record (play (length bs)) s u t bs) e) ∙ none_left s u t o bs false
 
-bad_head : (bs : List ℕ) → record_of bs ≡ Bad → 4 ≤ length bs
-bad_head bs e = by_le 4 (length bs) (λ h. h) (λ h. let c = no_head bs h in let z : ◌≡◌ {A = ℕ} 0 1 = cc in absurd (omega arith))
+bad_head : (bs : List ℕ) → record_of bs ≡ Err Bad → 4 ≤ length bs
+bad_head bs e = by_le 4 (length bs) (λ h. h) (λ h. let c = no_head bs h in absurd cc)
 
-last_bad : (s : State) (u t : List ℕ) (o : ℕ) (bs cs : List ℕ) → record_of bs ≡ Bad → from s u t o (bs ++ cs) ≡ last_line s o (length bs)
+last_bad : (s : State) (u t : List ℕ) (o : ℕ) (bs cs : List ℕ) → record_of bs ≡ Err Bad → from s u t o (bs ++ cs) ≡ last_line s o (length bs)
 last_bad s u t o bs cs e =
     let h = bad_head bs e in
-    let r : record_of (bs ++ cs) ≡ Bad = record_more bs cs (subst (Not-cut bs cs) (sym e) tt) ∙ e in
+    let r : record_of (bs ++ cs) ≡ Err Bad = record_more bs cs (subst (Not-cut bs cs) (sym e) tt) ∙ e in
     ap (ends o (bs ++ cs)) (front s u t (bs ++ cs) ∙ ap (after_record (play (length (bs ++ cs))) s u t (bs ++ cs)) r) ∙ none_left s u t o (bs ++ cs) true
     ∙ ap (λ (b : Bool). pick b (end_line s) (bad_line o)) (ne_eqb (length (bs ++ cs)) 0 (λ z. omega (arith, length-append bs cs)) ∙ sym (ne_eqb (length bs) 0 (λ z. omega arith)))
 
@@ -95,8 +97,8 @@ pub data Session : State → List ℕ → List ℕ → ℕ → List ℕ → List
   plays : {s : State} {u t : List ℕ} {o : ℕ} {bs cs out : List ℕ} (k : ℕ) (next : List ℕ) → out ≡ (play k s u t bs).lines ++ next
       → Session (play k s u t bs).state (play k s u t bs).used (play k s u t bs).stop (o + (play k s u t bs).taken) (drop (play k s u t bs).taken bs) cs next
       → Session s u t o bs cs out
-  finishes : {s : State} {u t : List ℕ} {o : ℕ} {bs cs out : List ℕ} → record_of bs ≡ Cut → cs ≡ [] → out ≡ last_line s o (length bs) → Session s u t o bs cs out
-  stops : {s : State} {u t : List ℕ} {o : ℕ} {bs cs out : List ℕ} → record_of bs ≡ Bad → out ≡ last_line s o (length bs) → Session s u t o bs cs out
+  finishes : {s : State} {u t : List ℕ} {o : ℕ} {bs cs out : List ℕ} → record_of bs ≡ Err Cut → cs ≡ [] → out ≡ last_line s o (length bs) → Session s u t o bs cs out
+  stops : {s : State} {u t : List ℕ} {o : ℕ} {bs cs out : List ℕ} → record_of bs ≡ Err Bad → out ≡ last_line s o (length bs) → Session s u t o bs cs out
 
 pub session : {s : State} {u t : List ℕ} {o : ℕ} {bs cs out : List ℕ} → Session s u t o bs cs out → out ≡ from s u t o (bs ++ cs)
 session {s} {u} {t} {o} {bs} (reads more rest e r) =

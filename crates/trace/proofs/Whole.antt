@@ -5,12 +5,14 @@ use mathlib.Core.Path.{◌≡◌, refl, sym, ap, ◌∙◌}
 use native.Mathlib.Nat.{add-zero, add-suc}
 use native.Mathlib.Omega.{arith}
 use lib.ListN.{length, drop, length-drop}
+use Rattle.std.specs.Prelude.{Result, Ok, Err}
 use Rattle.state.specs.declared.State.{State}
 use Rattle.state.specs.Table.{zero_state}
 use Rattle.machine.specs.Turn.{Turn}
 use Rattle.machine.specs.Machine as machine
 use Rattle.records.specs.declared.Record.{Record}
-use Rattle.records.specs.declared.Record.TheVariants.{Cut, Bad, Whole}
+use Rattle.records.specs.declared.Unread.{Unread}
+use Rattle.records.specs.declared.Unread.TheVariants.{Cut, Bad}
 use Rattle.records.specs.Records.{record_of}
 use Rattle.records.proofs.Ways.{no_head, whole_size}
 use Rattle.lines.specs.Lines.{answer_line}
@@ -18,14 +20,14 @@ use Rattle.calls.specs.Calls.{call_by}
 use Rattle.trace.specs.Play.{prepended, after_record, play}
 use Rattle.trace.specs.Output.{whole, output}
 
-next : (k : ℕ) (s : State) (u t bs : List ℕ) (r : Record) → record_of bs ≡ r → length bs ≤ suc k
+next : (k : ℕ) (s : State) (u t bs : List ℕ) (r : Result Record Unread) → record_of bs ≡ r → length bs ≤ suc k
     → ((s : State) (u t ds : List ℕ) → length ds ≤ k → play (suc k) s u t ds ≡ play k s u t ds)
     → after_record (play (suc k)) s u t bs r ≡ after_record (play k) s u t bs r
-next k s u t bs Cut e h f = refl
-next k s u t bs Bad e h f = refl
-next k s u t bs (Whole n c) e h f =
-    let x : Turn = machine.step s u t (call_by c) in
-    ap (prepended n (answer_line x.answer)) (f x.state x.used x.stop (drop n bs) (omega (arith, length-drop n bs, (whole_size n c bs e).0)))
+next k s u t bs (Err Cut) e h f = refl
+next k s u t bs (Err Bad) e h f = refl
+next k s u t bs (Ok r) e h f =
+    let x : Turn = machine.step s u t (call_by r.call) in
+    ap (prepended r.length (answer_line x.answer)) (f x.state x.used x.stop (drop r.length bs) (omega (arith, length-drop r.length bs, (whole_size r bs e).0)))
 
 -- one more than there can be changes nothing
 one_more : (k : ℕ) (s : State) (u t bs : List ℕ) → length bs ≤ k → play (suc k) s u t bs ≡ play k s u t bs

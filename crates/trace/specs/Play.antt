@@ -1,10 +1,11 @@
 -- Document 01, The trace: records one after the other through the machine. Assumes nothing.
-use Rattle.std.specs.Prelude.{ℕ, zero, suc, ◌+◌, Bool, true, false, List, [], ◌++◌, ◌≡◌, drop}
+use Rattle.std.specs.Prelude.{ℕ, zero, suc, ◌+◌, Bool, true, false, List, [], ◌++◌, ◌≡◌, Result, Ok, Err, drop}
 use Rattle.state.specs.declared.State.{State}
 use Rattle.machine.specs.Turn.{Turn}
 use Rattle.machine.specs.Machine as machine
 use Rattle.records.specs.declared.Record.{Record}
-use Rattle.records.specs.declared.Record.TheVariants.{Cut, Bad, Whole}
+use Rattle.records.specs.declared.Unread.{Unread}
+use Rattle.records.specs.declared.Unread.TheVariants.{Cut, Bad}
 use Rattle.records.specs.Records.{record_of}
 use Rattle.calls.specs.Calls.{call_by}
 use Rattle.lines.specs.Lines.{answer_line}
@@ -30,10 +31,10 @@ abbrev pub after_call : (State → List ℕ → List ℕ → Run) → ℕ → Tu
 after_call rest n t = prepended n (answer_line t.answer) (rest t.state t.used t.stop)
 
 -- a bad record isn't executed
-abbrev pub after_record : (State → List ℕ → List ℕ → List ℕ → Run) → State → List ℕ → List ℕ → List ℕ → Record → Run
-after_record rest s u t bs Cut = stopped s u t false
-after_record rest s u t bs Bad = stopped s u t true
-after_record rest s u t bs (Whole n c) = after_call (λ s u t. rest s u t (drop n bs)) n (machine.step s u t (call_by c))
+abbrev pub after_record : (State → List ℕ → List ℕ → List ℕ → Run) → State → List ℕ → List ℕ → List ℕ → Result Record Unread → Run
+after_record rest s u t bs (Err Cut) = stopped s u t false
+after_record rest s u t bs (Err Bad) = stopped s u t true
+after_record rest s u t bs (Ok r) = after_call (λ s u t. rest s u t (drop r.length bs)) r.length (machine.step s u t (call_by r.call))
 
 -- at most k records from the front of the bytes, as long as they are whole and good
 unfoldable pub play : ℕ → State → List ℕ → List ℕ → List ℕ → Run

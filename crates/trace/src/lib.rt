@@ -6,7 +6,7 @@
 ghost use Rattle.std.specs.Prelude.{◌/◌, ◌≤◌, length};
 ghost use Rattle.trace.specs.Play.{Plays, play};
 
-use records::Record;
+use records::Unread;
 use state::State;
 
 // How far a play came: the state, the bytes taken and written, and whether a bad record follows those taken.
@@ -24,43 +24,24 @@ pub fn play(s: State, used: &mut [u32], stop: &mut [u32], bytes: &[u8], out: &mu
         result.state used.new stop.new result.taken result.bad out.new result.written }
     ensures taken_in_bounds { (result.taken ≤ length bytes.now) × (result.written ≤ length out.old) }
 {
-    let mut state = s;
-    let mut taken: usize = 0;
-    let mut written: usize = 0;
-    let mut left = out.len() / text::LINE;
-    while 0 < left {
-        let found = records::read(&bytes[taken..]);
-        match found {
-            Record::Whole(n, c) => {
-                let o = calls::call(state, used, stop, c);
-                let answer = o.answer;
-                state = o.state;
-                written = lines::put_answer(out, written, answer);
-                taken += n;
-            }
-            Record::Cut => {
-                return Played {
-                    state,
-                    taken,
-                    written,
-                    bad: false,
-                };
-            }
-            Record::Bad => {
-                return Played {
-                    state,
-                    taken,
-                    written,
-                    bad: true,
-                };
-            }
-        }
-        left -= 1;
-    }
-    Played {
-        state,
-        taken,
-        written,
+    let mut p = Played {
+        state: s,
+        taken: 0,
+        written: 0,
         bad: false,
+    };
+    for _ in 0..out.len() / text::LINE {
+        let record = match records::read(&bytes[p.taken..]) {
+            Ok(record) => record,
+            Err(unread) => {
+                p.bad = unread == Unread::Bad;
+                return p;
+            }
+        };
+        let o = calls::call(p.state, used, stop, record.call);
+        p.state = o.state;
+        p.written = lines::put_answer(out, p.written, o.answer);
+        p.taken += record.length;
     }
+    p
 }
