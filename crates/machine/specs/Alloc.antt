@@ -18,7 +18,7 @@ use Rattle.state.specs.declared.Refusal.TheVariants.{NoMapping, BadShape}
 use Rattle.state.specs.declared.Answer.TheVariants.{Granted}
 use Rattle.state.specs.Table.{block_at, pool_at, one}
 use Rattle.state.specs.Shape.{bad_shape, is_empty, in_pool}
-use Rattle.state.specs.Outcome.{refusal_of}
+use Rattle.state.specs.Outcome.{size_refusal}
 use Rattle.state.specs.Find.{lowest_slot, lowest_place, newest_size}
 use Rattle.state.specs.Change.{inserted}
 use Rattle.machine.specs.Turn.{Turn, turn, refuse, span, put_block, put_pool, with_live, with_counts, unit_of, clear_slot}
@@ -100,7 +100,7 @@ alloc_pool s u t size p =
 
 abbrev pub alloc_rounded : State → Map → Map → Result Bytes SizeError → Turn
 alloc_rounded s u t (Ok size) = alloc_pool s u t size (pool_for s size)
-alloc_rounded s u t (Err why) = refuse (refusal_of why) s u t
+alloc_rounded s u t (Err why) = refuse (size_refusal why) s u t
 
 unfoldable pub alloc_turn : State → Map → Map → Bytes → Turn
 alloc_turn s u t size = pick (bad_shape s (length u) (length t)) (refuse BadShape s u t) (alloc_rounded s u t (rounded size s.granularity))

@@ -10,6 +10,6 @@ use Rattle.state.specs.declared.Outcome.{Outcome}
 abbrev pub refusal : State → Refusal → Outcome
 refusal s why = record { answer = Refused why; state = s }
 
-abbrev pub refusal_of : SizeError → Refusal
-refusal_of size.InvalidArgument = InvalidArgument
-refusal_of size.TooLarge = TooLarge
+abbrev pub size_refusal : SizeError → Refusal
+size_refusal size.InvalidArgument = InvalidArgument
+size_refusal size.TooLarge = TooLarge

@@ -4,7 +4,7 @@
 ghost use Rattle.std.specs.Prelude.{◌≡◌, ◌<◌};
 ghost use Rattle.sizes.specs.Limits.{slot_limit};
 ghost use Rattle.state.specs.Table.{zero_block, zero_state, block_at, pool_at};
-ghost use Rattle.state.specs.Outcome.{refusal, refusal_of};
+ghost use Rattle.state.specs.Outcome.{refusal, size_refusal};
 ghost use Rattle.state.specs.Held.{refusal_of};
 
 use block::Block;
@@ -85,7 +85,7 @@ pub enum Refusal {
 }
 
 impl From<SizeError> for Refusal {
-    ghost from_gives = { λ why r. r ≡ refusal_of why };
+    ghost from_gives = { λ why r. r ≡ size_refusal why };
 
     fn from(why: SizeError) -> Refusal {
         match why {

@@ -18,11 +18,8 @@ use Rattle.std.specs.Option.{unwrap_or, option_map}
 use Rattle.std.proofs.lemmas.List.Sums.{position_or_len_is}
 use Rattle.block.specs.declared.Block.{Block}
 use Rattle.state.specs.declared.State.{State}
-use Rattle.state.specs.declared.Found.{Found}
-use Rattle.state.specs.declared.Found.TheVariants.{At, Nothing}
 use Rattle.state.specs.Table.{zero_block, block_at}
 use Rattle.state.specs.Find.{least, latest, size_or}
-use Rattle.state.specs.Change.{or_else}
 use Rattle.state.proofs.Find.{Least, least_of}
 
 module _ {A : Type 0} (p : A → Bool) (xs : List A) (n : ℕ) (d : A) (fits : n ≤ length xs) where
@@ -33,7 +30,7 @@ module _ {A : Type 0} (p : A → Bool) (xs : List A) (n : ℕ) (d : A) (fits : n
   abbrev pub place_or : ℕ
   place_or = unwrap_or (cond (ltb (position_or_len p (take n xs)) (length (take n xs))) (Some (position_or_len p (take n xs))) None) n
 
-  pub first_place : place_or ≡ or_else n (least n (λ k. p (get_or xs k d)))
+  pub first_place : place_or ≡ unwrap_or (least n (λ k. p (get_or xs k d))) n
   first_place = go (least n (λ k. p (get_or xs k d))) (least_of n (λ k. p (get_or xs k d)))
     where
       test : ℕ → Bool
@@ -42,13 +39,13 @@ module _ {A : Type 0} (p : A → Bool) (xs : List A) (n : ℕ) (d : A) (fits : n
       read : (k : ℕ) → k < n → p (get_or (take n xs) k d) ≡ p (get_or xs k d)
       read k l = ap p (get_or-take n xs k d l)
 
-      go : (r : Found) → Least 0 n (λ k. p (get_or xs k d)) r → place_or ≡ or_else n r
-      go (At i) q =
+      go : (r : Option ℕ) → Least 0 n (λ k. p (get_or xs k d)) r → place_or ≡ unwrap_or r n
+      go (Some i) q =
           let e : position_or_len p (take n xs) ≡ i =
           position_or_len_is p (take n xs) i d (omega (arith, q.high, long))
           (λ k l. read k (omega (arith, q.high)) ∙ q.before k (omega arith) l) (λ l. read i q.high ∙ q.passes) in
           rw (e, lt-ltb i (length (take n xs)) (omega (arith, q.high, long)))
-      go Nothing q =
+      go None q =
           let e : position_or_len p (take n xs) ≡ n =
           position_or_len_is p (take n xs) n d (omega (arith, long))
           (λ k l. read k l ∙ q k (omega arith) l) (λ l. absurd (omega (arith, long))) in
@@ -77,7 +74,7 @@ module _ (s : State) (p : ℕ) where
       rest = find in_pool (reverse (take n s.blocks))
 
       go : (b : Bool) → size_found rest ≡ size_or s (latest n (λ i. in_pool (block_at s i)))
-          → size_found (cond b (Some (block_at s n)) rest) ≡ size_or s (pick b (At n) (latest n (λ i. in_pool (block_at s i))))
+          → size_found (cond b (Some (block_at s n)) rest) ≡ size_or s (pick b (Some n) (latest n (λ i. in_pool (block_at s i))))
       go true e = refl
       go false e = e
 
