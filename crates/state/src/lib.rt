@@ -60,9 +60,9 @@ pub fn zero_state() -> State
         length: 0,
         live: 0,
         count: 0,
-        blocks: [zero_block(); SLOT_LIMIT],
+        blocks: [Block::default(); SLOT_LIMIT],
         order: [0; SLOT_LIMIT],
-        pools: [Pool::new(0); 3],
+        pools: [Pool::default(); 3],
     }
 }
 
