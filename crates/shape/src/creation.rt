@@ -50,8 +50,8 @@ fn slices_ok(s: &State, used: usize, stop: usize) -> bool
 
 // Tests the numbers in the record, and the lengths of the two slices.
 #[tactic(auto, unfolding(crate::specs::Parts::head_ok))]
-pub fn head_ok(s: State, used: usize, stop: usize) -> bool
-    ensures { result ≡ head_ok s used stop }
+pub fn head_ok(s: &State, used: usize, stop: usize) -> bool
+    ensures { result ≡ head_ok s.now used stop }
 {
-    numbers_ok(&s) && slots_ok(&s) && slices_ok(&s, used, stop) && s.count <= s.slots
+    numbers_ok(s) && slots_ok(s) && slices_ok(s, used, stop) && s.count <= s.slots
 }

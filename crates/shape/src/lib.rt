@@ -17,15 +17,15 @@ use sizes::Pool;
 use state::State;
 
 // Tests each block by age, the pools' records against the blocks, and that the live count is at most the used units.
-pub fn table_ok(s: State) -> bool
-    requires { Headed s }
-    ensures { result ≡ table_ok s }
+pub fn table_ok(s: &State) -> bool
+    requires { Headed s.now }
+    ensures { result ≡ table_ok s.now }
 {
     let mut seen = [false; state::SLOT_LIMIT];
     let mut sums = [Pool::new(s.granularity); 3];
     let mut used = 0;
     for b in &s.blocks[..s.count] {
-        if !blocks::block_ok(b, &s) || seen[b.slot] {
+        if !blocks::block_ok(b, s) || seen[b.slot] {
             return false;
         }
         seen[b.slot] = true;
@@ -46,9 +46,9 @@ fn zeros_ok(s: &State) -> bool
 
 // Tests the address order, and the zeros after the last block. Each block starts at or after the end of the one before: so the blocks rise,
 // share no byte, and none comes twice.
-fn layout_ok(s: State) -> bool
-    requires { Laid s }
-    ensures { result ≡ layout_ok s }
+fn layout_ok(s: &State) -> bool
+    requires { Laid s.now }
+    ensures { result ≡ layout_ok s.now }
 {
     let mut end = 0;
     for age in &s.order[..s.count] {
@@ -61,7 +61,7 @@ fn layout_ok(s: State) -> bool
         }
         end = b.base + b.size;
     }
-    zeros_ok(&s)
+    zeros_ok(s)
 }
 
 // True if the record is not BadShape. `used` and `stop` are the lengths of the two slices.
@@ -69,5 +69,5 @@ fn layout_ok(s: State) -> bool
 pub fn shape_ok(s: State, used: usize, stop: usize) -> bool
     ensures { result ≡ good_shape s used stop }
 {
-    creation::head_ok(s, used, stop) && table_ok(s) && layout_ok(s)
+    creation::head_ok(&s, used, stop) && table_ok(&s) && layout_ok(&s)
 }

@@ -2,4 +2,4 @@ use Rattle.shape.proofs.Address.{Ordered}
 use Rattle.shape.proofs.layout_ok.Given as goal
 
 abbrev pub invariant-loop-age : goal.invariant-loop-age
-invariant-loop-age l = Ordered l.fn.s l.age-index l.end
+invariant-loop-age l = Ordered l.s l.age-index l.end
