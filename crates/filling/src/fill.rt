@@ -3,28 +3,39 @@ ghost use Rattle.std.specs.Prelude.{◌≡◌, ◌+◌, ◌-◌, ◌<◌, ◌≤
 ghost use Rattle.sizes.specs.Limits.{slot_limit};
 ghost use Rattle.image.specs.Image.{filled_at};
 ghost use Rattle.state.specs.declared.Answer.TheVariants.{Reset};
-ghost use Rattle.filling.specs.Unused.{made, freed, tail_of, cut_off, blocks_up_to, kept_bytes, filled_image};
-ghost use Rattle.filling.specs.InArena.{AllInArena};
+ghost use Rattle.filling.specs.Unused.{bytes_of_block, made, freed, tail_of, cut_off, blocks_up_to, kept_bytes, filled_image};
+ghost use Rattle.filling.specs.InArena.{InArena, AllInArena};
 
+use block::Block;
 use state::{Answer, Span, State};
 
-// Fills one span's bytes.
-fn fill_span(image: &mut [u8], arena: u64, address: u64, size: u64, pattern: u32)
-    requires { (arena ≤ address) × (address + size ≤ arena + length image.old) }
-    ensures { image.new ≡ filled_at image.old (address - arena) size pattern }
+fn bytes_of_block(b: Block) -> Span
+    ensures { result ≡ bytes_of_block b }
 {
-    image::fill_pattern(image, (address - arena) as usize, size as usize, pattern);
+    Span {
+        address: b.base,
+        size: b.size,
+    }
+}
+
+// Fills one span's bytes.
+fn fill_span(image: &mut [u8], arena: u64, x: Span, pattern: u32)
+    requires { InArena arena (length image.old) x }
+    ensures { image.new ≡ filled_at image.old (x.address - arena) x.size pattern }
+{
+    let at = (x.address - arena) as usize;
+    image::fill_pattern(image, at, x.size as usize, pattern);
 }
 
 // Fills a new block's bytes. There is a new block, of age `before`, if there are more blocks than before the call.
 #[tactic(auto, using(crate::proofs::Unused::makes), unfolding(crate::specs::Unused::filled_image))]
 pub fn fill_made(image: &mut [u8], arena: u64, before: usize, r: State, pattern: u32)
-    requires { (before < r.count → before < slot_limit) × AllInArena arena (length image.old) (made before r) }
+    requires in_table { before < r.count → before < slot_limit }
+    requires in_arena { AllInArena arena (length image.old) (made before r) }
     ensures { image.new ≡ filled_image arena pattern image.old (made before r) }
 {
     if before < r.count {
-        let b = state::block_at(r, before);
-        fill_span(image, arena, b.base, b.size, pattern);
+        fill_span(image, arena, bytes_of_block(r.blocks[before]), pattern);
     }
 }
 
@@ -35,7 +46,7 @@ pub fn fill_freed(image: &mut [u8], arena: u64, answer: Answer, pattern: u32)
     ensures { image.new ≡ filled_image arena pattern image.old (freed answer) }
 {
     if let Answer::Released(x) = answer {
-        fill_span(image, arena, x.address, x.size, pattern);
+        fill_span(image, arena, x, pattern);
     }
 }
 
@@ -46,13 +57,11 @@ fn fill_behind(image: &mut [u8], arena: u64, was: Answer, x: Span, pattern: u32)
     ensures { image.new ≡ filled_image arena pattern image.old (tail_of x was) }
 {
     if let Answer::Shown(y) = was {
-        fill_span(
-            image,
-            arena,
-            x.address + x.size,
-            y.size.saturating_sub(x.size),
-            pattern,
-        );
+        let tail = Span {
+            address: x.address + x.size,
+            size: y.size.saturating_sub(x.size),
+        };
+        fill_span(image, arena, tail, pattern);
     }
 }
 
@@ -70,18 +79,20 @@ pub fn fill_cut_off(image: &mut [u8], arena: u64, was: Answer, answer: Answer, p
 // Fills all bytes of all blocks.
 #[tactic(auto, using(crate::proofs::Unused::walks))]
 fn fill_blocks(image: &mut [u8], arena: u64, r: State, pattern: u32)
-    requires { (r.count ≤ slot_limit) × AllInArena arena (length image.old) (blocks_up_to r r.count) }
+    requires few { r.count ≤ slot_limit }
+    requires in_arena { AllInArena arena (length image.old) (blocks_up_to r r.count) }
     ensures { image.new ≡ filled_image arena pattern image.old (blocks_up_to r r.count) }
 {
     for b in &r.blocks[..r.count] {
-        fill_span(image, arena, b.base, b.size, pattern);
+        fill_span(image, arena, bytes_of_block(*b), pattern);
     }
 }
 
 // Fills all bytes of the blocks that a reset kept.
 #[tactic(auto, unfolding(crate::specs::Unused::filled_image))]
 pub fn fill_kept(image: &mut [u8], arena: u64, r: State, answer: Answer, pattern: u32)
-    requires { (answer ≡ Reset → r.count ≤ slot_limit) × AllInArena arena (length image.old) (kept_bytes r answer) }
+    requires few { answer ≡ Reset → r.count ≤ slot_limit }
+    requires in_arena { AllInArena arena (length image.old) (kept_bytes r answer) }
     ensures { image.new ≡ filled_image arena pattern image.old (kept_bytes r answer) }
 {
     if let Answer::Reset = answer {

@@ -15,4 +15,7 @@ fill_made-requires c =
     let k = c.alloc-r in
     let x = turn k.result.answer k.result.state k.new.used k.new.stop in
     let z = sized_is a.s _ c.well_formed.0 in
-    (subst (λ (y : Turn). a.s.count < y.state.count → a.s.count < 64) (sym k.ensures) (made_few a.s a.used.now a.stop.now z a.size), asks a.s a.used.now a.stop.now z (alloc a.size) x k.ensures (length a.image.now) (omega arith))
+    record {
+      in_table = subst (λ (y : Turn). a.s.count < y.state.count → a.s.count < 64) (sym k.ensures) (made_few a.s a.used.now a.stop.now z a.size);
+      in_arena = asks a.s a.used.now a.stop.now z (alloc a.size) x k.ensures (length a.image.now) (omega arith);
+    }

@@ -17,4 +17,7 @@ fill_kept-requires c =
     let k = c.soft_reset-r in
     let x = turn k.result.answer k.result.state k.new.used k.new.stop in
     let z = sized_is a.s _ c.well_formed.0 in
-    (subst (λ (y : Turn). y.answer ≡ Reset → y.state.count ≤ 64) (sym k.ensures) (kept_few a.s a.used.now a.stop.now z false), asks a.s a.used.now a.stop.now z soft_reset x k.ensures (length a.image.now) (omega arith))
+    record {
+      few = subst (λ (y : Turn). y.answer ≡ Reset → y.state.count ≤ 64) (sym k.ensures) (kept_few a.s a.used.now a.stop.now z false);
+      in_arena = asks a.s a.used.now a.stop.now z soft_reset x k.ensures (length a.image.now) (omega arith);
+    }

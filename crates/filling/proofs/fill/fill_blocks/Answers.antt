@@ -1,3 +1,4 @@
+-- The image keeps its length over the loop, and each of the first blocks lies in it (`blocks_within`). Assumes nothing.
 use native.Mathlib.Omega.{arith}
 use lib.ListN.{length, length-take}
 use Rattle.block.specs.declared.Block.{Block}
@@ -9,5 +10,5 @@ pub fill_span-requires : goal.fill_span-requires
 fill_span-requires c =
     let a = c.args in
     let i = c.loop-b.b-index in
-    let b = blocks_within a.arena a.r (length a.image.now) a.r.count i (omega (arith, length-take {A = Block})) c.requires.1 in
-    rw (block_here a.r a.r.count i _ c.loop-b-test.true) (omega (arith, b.low), omega (arith, b.high))
+    rw (c.loop-b.auto.image, c.bytes_of_block.ensures, block_here a.r a.r.count i _ c.loop-b-test.true)
+    (blocks_within a.arena a.r (length a.image.now) a.r.count i (omega (arith, length-take {A = Block})) c.requires.in_arena)
