@@ -1,15 +1,10 @@
 -- The machine's call for the call of a trace's record. Assumes nothing.
-use Rattle.machine.specs.Create.{Asked}
 use Rattle.machine.specs.Machine as machine
-use Rattle.records.specs.declared.Asked as read
 use Rattle.records.specs.declared.Call.{Call}
 use Rattle.records.specs.declared.Call.TheVariants.{Create, Alloc, Release, Shrink, Query, SoftReset, HardReset}
 
-abbrev pub asked_by : read.Asked → Asked
-asked_by a = record { size = a.size; granularity = a.granularity; flags = a.flags; w = a.w; arena = a.arena; length = a.length }
-
 abbrev pub call_by : Call → machine.Call
-call_by (Create a) = machine.create (asked_by a)
+call_by (Create a) = machine.create a
 call_by (Alloc size) = machine.alloc size
 call_by (Release a) = machine.release a
 call_by (Shrink a size) = machine.shrink a size

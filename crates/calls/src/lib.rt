@@ -4,30 +4,20 @@
 ghost use Rattle.std.specs.Prelude.{◌≡◌};
 ghost use Rattle.machine.specs.Turn.{turn_of};
 ghost use Rattle.machine.specs.Machine.{create, step};
-ghost use Rattle.calls.specs.Calls.{asked_by, call_by};
+ghost use Rattle.calls.specs.Calls.{call_by};
 
-use records::{Asked, Call};
-use state::{Answer, Outcome, State};
+use records::Call;
+use state::{Answer, Asked, Outcome, State};
 
 // Creates an allocator. If that is refused, the trace goes on with the state before it, since nothing was created.
-fn call_create(s: State, used: &mut [u32], stop: &mut [u32], a: Asked) -> Outcome
-    ensures { turn_of result used.new stop.new ≡ step s used.old stop.old (create (asked_by a)) }
+fn call_create(s: State, used: &mut [u32], stop: &mut [u32], asked: Asked) -> Outcome
+    ensures { turn_of result used.new stop.new ≡ step s used.old stop.old (create asked) }
 {
-    let made = create::create(
-        a.size,
-        a.granularity,
-        a.flags,
-        a.w,
-        a.arena,
-        a.length,
-        used,
-        stop,
-    );
-    let answer = made.answer;
-    if let Answer::Refused(_) = answer {
-        return Outcome { answer, state: s };
+    let made = create::create(asked, used, stop);
+    match made.answer {
+        Answer::Refused(_) => Outcome { state: s, ..made },
+        _ => made,
     }
-    made
 }
 
 // Makes one call.
@@ -35,7 +25,7 @@ pub fn call(s: State, used: &mut [u32], stop: &mut [u32], c: Call) -> Outcome
     ensures { turn_of result used.new stop.new ≡ step s used.old stop.old (call_by c) }
 {
     match c {
-        Call::Create(a) => call_create(s, used, stop, a),
+        Call::Create(asked) => call_create(s, used, stop, asked),
         Call::Alloc(size) => alloc::alloc(s, used, stop, size),
         Call::Release(address) => release::release(s, used, stop, address),
         Call::Shrink(address, size) => shrink::shrink(s, used, stop, address, size),

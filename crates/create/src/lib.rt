@@ -1,17 +1,16 @@
 // The call create.
 #![tactic(auto)]
 
-ghost use Rattle.std.specs.Prelude.{◌≡◌, ◌<◌, ◌≤◌, length};
+ghost use Rattle.std.specs.Prelude.{◌≡◌, ◌<◌};
 ghost use Rattle.state.specs.declared.Refusal.TheVariants.{InvalidArgument};
 ghost use Rattle.state.specs.declared.Answer.TheVariants.{Created};
 ghost use Rattle.state.specs.Table.{zero_state};
 ghost use Rattle.state.specs.Outcome.{refusal};
 ghost use Rattle.machine.specs.Turn.{turn_of};
-ghost use Rattle.machine.specs.Create.{pools_asked, immediate_asked, slots_of, grantable, fresh_state, cleared, create_turn};
-ghost use Rattle.create.specs.Asked.{asked};
+ghost use Rattle.machine.specs.Create.{pools_asked, immediate_asked, slots_of, grantable, fresh_state, create_turn};
 
 use sizes::Pool;
-use state::{Answer, Outcome, Refusal, State};
+use state::{Answer, Asked, Outcome, Refusal, State};
 
 // Returns the number of pools: bit 0 of the flags asks for three.
 fn pools_asked(flags: u32) -> usize
@@ -36,64 +35,32 @@ fn slots_of(w: usize, used: usize, stop: usize) -> usize
     numbers::lesser(state::SLOT_LIMIT, words / w)
 }
 
-// True if W, the slot count and the arena are in range. It tests `w` first, since `slots_of` divides by it.
-fn is_grantable(w: usize, arena: u64, length: u64, used: usize, stop: usize) -> bool
-    ensures { result ≡ grantable (asked 0 0 0 w arena length) used stop }
+// True if W, the slot count and the arena are in range. It tests W first, since `slots_of` divides by it.
+fn is_grantable(asked: Asked, used: usize, stop: usize) -> bool
+    ensures { result ≡ grantable asked used stop }
 {
-    if w < 1 {
-        return false;
-    }
-    if w > state::MAX_SLOT_WORDS {
-        return false;
-    }
-    if slots_of(w, used, stop) < 1 {
-        return false;
-    }
-    shape::creation::arena_ok(arena, length)
-}
-
-// Clears the first `n` words, and no later ones.
-fn clear_words(words: &mut [u32], n: usize)
-    requires { n ≤ length words.old }
-    ensures { words.new ≡ cleared n words.old }
-{
-    let mut i: usize = 0;
-    while i < n {
-        words[i] = 0;
-        i += 1;
-    }
+    let w = asked.w as usize;
+    (1..=state::MAX_SLOT_WORDS).contains(&w)
+        && slots_of(w, used, stop) >= 1
+        && shape::creation::arena_ok(asked.arena, asked.length)
 }
 
 // Makes the record of an allocator with no block.
-fn fresh_state(
-    size: u32,
-    granularity: u32,
-    flags: u32,
-    w: usize,
-    arena: u64,
-    length: u64,
-    slots: usize,
-) -> State
-    ensures { result ≡ fresh_state (asked size granularity flags w arena length) slots }
+fn fresh_state(asked: Asked, slots: usize) -> State
+    ensures { result ≡ fresh_state asked slots }
 {
-    let unit = sizes::limits::granularity_in_force(granularity);
-    let base = sizes::limits::base_size_in_force(size);
-    let poolcount = pools_asked(flags);
-    let immediate = immediate_asked(flags);
+    let granularity = sizes::limits::granularity_in_force(asked.granularity);
     State {
-        size: base,
-        granularity: unit,
-        poolcount,
-        immediate,
-        w,
+        size: sizes::limits::base_size_in_force(asked.size),
+        granularity,
+        poolcount: pools_asked(asked.flags),
+        immediate: immediate_asked(asked.flags),
+        w: asked.w as usize,
         slots,
-        arena,
-        length,
-        live: 0,
-        count: 0,
-        blocks: [state::zero_block(); state::SLOT_LIMIT],
-        order: [0; state::SLOT_LIMIT],
-        pools: [Pool::new(unit); 3],
+        arena: asked.arena,
+        length: asked.length,
+        pools: [Pool::new(granularity); 3],
+        ..state::zero_state()
     }
 }
 
@@ -115,25 +82,17 @@ fn not_granted() -> Outcome
 
 // Creates an allocator over the two slices and the arena. A size or a granularity that is not listed becomes the least one; any other
 // number out of its range is refused, and then no word is written.
-pub fn create(
-    size: u32,
-    granularity: u32,
-    flags: u32,
-    w: u32,
-    arena: u64,
-    length: u64,
-    used: &mut [u32],
-    stop: &mut [u32],
-) -> Outcome
-    ensures { turn_of result used.new stop.new ≡ create_turn (asked size granularity flags w arena length) used.old stop.old }
+#[tactic(auto, unfolding(machine::specs::Create::create_turn))]
+pub fn create(asked: Asked, used: &mut [u32], stop: &mut [u32]) -> Outcome
+    ensures { turn_of result used.new stop.new ≡ create_turn asked used.old stop.old }
 {
-    let words = w as usize;
-    if !is_grantable(words, arena, length, used.len(), stop.len()) {
+    if !is_grantable(asked, used.len(), stop.len()) {
         return not_granted();
     }
-    let slots = slots_of(words, used.len(), stop.len());
-    let n = slots * words;
-    clear_words(used, n);
-    clear_words(stop, n);
-    created(fresh_state(size, granularity, flags, words, arena, length, slots))
+    let w = asked.w as usize;
+    let slots = slots_of(w, used.len(), stop.len());
+    let words = slots * w;
+    used[..words].fill(0);
+    stop[..words].fill(0);
+    created(fresh_state(asked, slots))
 }

@@ -18,7 +18,8 @@ use Rattle.state.specs.Shape.{clauses}
 use Rattle.state.specs.Find.{least_from, latest}
 use Rattle.state.specs.Change.{list_from}
 use Rattle.machine.specs.Turn.{Turn, span}
-use Rattle.machine.specs.Create.{Asked, create_turn}
+use Rattle.state.specs.declared.Asked.{Asked}
+use Rattle.machine.specs.Create.{create_turn}
 use Rattle.machine.specs.Alloc.{search_from, alloc_turn}
 use Rattle.machine.specs.Span.{query_turn}
 use Rattle.machine.specs.Release.{release_turn}

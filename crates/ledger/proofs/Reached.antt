@@ -13,7 +13,8 @@ use Rattle.state.specs.declared.Answer.TheVariants.{Created}
 use Rattle.state.specs.declared.Refusal.TheVariants.{InvalidArgument}
 use Rattle.state.specs.Table.{zero_state}
 use Rattle.machine.specs.Turn.{Turn, refuse}
-use Rattle.machine.specs.Create.{Asked, slots_of, grantable, granted, create_turn}
+use Rattle.state.specs.declared.Asked.{Asked}
+use Rattle.machine.specs.Create.{slots_of, grantable, granted, create_turn}
 use Rattle.machine.specs.Machine.{Call, step}
 use Rattle.shape_kept.specs.Sized.{Sized}
 use Rattle.shape_kept.proofs.Sized.{sized_kept}

@@ -24,7 +24,8 @@ use Rattle.shape_facts.proofs.Search.{Left, Place}
 use Rattle.shape_facts.proofs.Cleared.{slots_room}
 use Rattle.shape_facts.proofs.Pool.{whole, units_kept}
 use Rattle.machine.specs.Turn.{turn, refuse, span, unit_of}
-use Rattle.machine.specs.Create.{Asked, slots_of, granted}
+use Rattle.state.specs.declared.Asked.{Asked}
+use Rattle.machine.specs.Create.{slots_of, granted}
 use Rattle.machine.specs.Alloc.{pool_for, units_for, search_for, new_size, alloc_turn, alloc_marked, alloc_made}
 use Rattle.machine.specs.Span.{query_turn}
 use Rattle.machine.specs.Release.{release_turn}

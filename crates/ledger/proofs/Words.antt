@@ -18,7 +18,8 @@ use Rattle.state.specs.declared.State.{State}
 use Rattle.state.specs.Table.{block_at, pool_at}
 use Rattle.state.specs.Change.{inserted}
 use Rattle.machine.specs.Turn.{Turn, with_live, clear_slot}
-use Rattle.machine.specs.Create.{Asked, slots_of, granted}
+use Rattle.state.specs.declared.Asked.{Asked}
+use Rattle.machine.specs.Create.{slots_of, granted}
 use Rattle.machine.specs.Alloc.{pool_for, units_for, search_for, new_size, alloc_marked, alloc_made}
 use Rattle.machine.specs.Release.{less_used, release_units, release_turn}
 use Rattle.machine.specs.Reset.{clear_blocks}

@@ -4,7 +4,8 @@ use Rattle.bits.specs.Bits.{Words}
 use Rattle.state.specs.declared.State.{State}
 use Rattle.state.specs.declared.Span.{Span}
 use Rattle.state.specs.declared.Answer.TheVariants.{Created}
-use Rattle.machine.specs.Create.{Asked, create_turn}
+use Rattle.state.specs.declared.Asked.{Asked}
+use Rattle.machine.specs.Create.{create_turn}
 use Rattle.machine.specs.Machine.{Call, step}
 use Rattle.ledger.specs.Ledger.{enter}
 

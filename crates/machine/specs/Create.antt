@@ -5,21 +5,14 @@ use Rattle.numbers.specs.Pick.{pick}
 use Rattle.sizes.specs.Limits.{granularity_in_force, base_size_in_force, max_slot_words, slot_limit}
 use Rattle.sizes.specs.Pools.{fresh_pool}
 use Rattle.state.specs.declared.State.{State}
+use Rattle.state.specs.declared.Asked.{Asked}
 use Rattle.state.specs.declared.Refusal.TheVariants.{InvalidArgument}
 use Rattle.state.specs.declared.Answer.TheVariants.{Created}
 use Rattle.state.specs.Table.{zero_block, zero_state}
 use Rattle.state.specs.Shape.{every, arena_ok}
 use Rattle.machine.specs.Turn.{Turn, turn, refuse}
 
--- what creation is asked for; flags: bit 0 three pools, bit 1 immediate release, other bits ignored
-pub record Asked : Type 0 where
-  pub size : ℕ
-  pub granularity : ℕ
-  pub flags : ℕ
-  pub w : ℕ
-  pub arena : ℕ
-  pub length : ℕ
-
+-- flags: bit 0 three pools, bit 1 immediate release, other bits ignored
 abbrev pub pools_asked : ℕ → ℕ
 pools_asked flags = pick (eqb (flags % 2) 0) 1 3
 

@@ -5,7 +5,8 @@ use Rattle.state.specs.declared.State.{State}
 use Rattle.state.specs.declared.Answer.{Answer}
 use Rattle.state.specs.declared.Answer.TheVariants.{Created, Granted, Released, Shrunk, Shown, Reset, Refused}
 use Rattle.machine.specs.Turn.{Turn, turn}
-use Rattle.machine.specs.Create.{Asked, create_turn}
+use Rattle.state.specs.declared.Asked.{Asked}
+use Rattle.machine.specs.Create.{create_turn}
 use Rattle.machine.specs.Alloc.{alloc_turn}
 use Rattle.machine.specs.Span.{query_turn}
 use Rattle.machine.specs.Release.{release_turn}

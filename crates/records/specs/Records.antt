@@ -1,7 +1,7 @@
 -- Document 01, The trace: the record that some bytes start with. Assumes nothing.
 use Rattle.std.specs.Prelude.{ℕ, ◌+◌, ◌≤◌, List, Option, Some, None, Result, Ok, Err, ltb, eqb, length}
 use Rattle.numbers.specs.Pick.{pick}
-use Rattle.records.specs.declared.Asked.{Asked}
+use Rattle.state.specs.declared.Asked.{Asked}
 use Rattle.records.specs.declared.Call.{Call}
 use Rattle.records.specs.declared.Call.TheVariants.{Create, Alloc, Release, Shrink, Query, SoftReset, HardReset}
 use Rattle.records.specs.declared.Record.{Record}

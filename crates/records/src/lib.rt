@@ -6,16 +6,7 @@ ghost use Rattle.records.specs.declared.Unread.TheVariants.{Bad};
 ghost use Rattle.records.specs.Kinds.{number};
 ghost use Rattle.records.specs.Records.{payload_of, Holds, asked_of, call_of, record_of};
 
-// What a creation asks for.
-#[derive(Clone, Copy)]
-pub struct Asked {
-    pub size: u32,
-    pub granularity: u32,
-    pub flags: u32,
-    pub w: u32,
-    pub arena: u64,
-    pub length: u64,
-}
+use state::Asked;
 
 #[derive(Clone, Copy)]
 pub enum Call {

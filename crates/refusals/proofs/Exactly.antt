@@ -10,7 +10,8 @@ use Rattle.state.specs.declared.Refusal.{Refusal}
 use Rattle.state.specs.declared.Refusal.TheVariants.{InvalidArgument, TooLarge, InvalidState, NoMapping, BadShape, Damaged}
 use Rattle.state.specs.declared.Answer.TheVariants.{Refused}
 use Rattle.machine.specs.Turn.{Turn}
-use Rattle.machine.specs.Create.{Asked, create_turn}
+use Rattle.state.specs.declared.Asked.{Asked}
+use Rattle.machine.specs.Create.{create_turn}
 use Rattle.machine.specs.Release.{release_units}
 use Rattle.machine.specs.Reset.{reset_turn}
 use Rattle.machine.specs.Machine.{Call, create, alloc, release, shrink, query, soft_reset, hard_reset, step}

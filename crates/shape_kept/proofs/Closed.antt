@@ -30,7 +30,8 @@ use Rattle.machine.specs.Alloc.{pool_for, units_for, search_for, new_size, alloc
 use Rattle.machine.specs.Release.{less_used, release_units}
 use Rattle.machine.specs.Shrink.{shrink_tail}
 use Rattle.machine.specs.Reset.{reset_turn}
-use Rattle.machine.specs.Create.{Asked, slots_of, grantable, fresh_state}
+use Rattle.state.specs.declared.Asked.{Asked}
+use Rattle.machine.specs.Create.{slots_of, grantable, fresh_state}
 use Rattle.machine.specs.Machine.{Call, create, alloc, release, shrink, query, soft_reset, hard_reset, step}
 use Rattle.machine.proofs.Cases.{FreesSpan, Cuts, Seeks, Places, settle_cases, create_cases, query_cases, release_cases, shrink_cases, reset_cases, alloc_cases, freed_answer}
 use Rattle.machine.proofs.Searched.{search_other}

@@ -20,7 +20,8 @@ use Rattle.shape.proofs.Head.{headed, lent, head_of}
 use Rattle.shape.proofs.Sums.{no_sums}
 use Rattle.shape.proofs.Enough.{enough_good}
 use Rattle.shape_facts.proofs.Cleared.{slots_room}
-use Rattle.machine.specs.Create.{Asked, slots_of, grantable, fresh_state}
+use Rattle.state.specs.declared.Asked.{Asked}
+use Rattle.machine.specs.Create.{slots_of, grantable, fresh_state}
 use Rattle.machine.specs.Reset.{empty_table}
 use Rattle.shape_kept.proofs.After.{empty_block, empty_age, empty_pool}
 use Rattle.shape_kept.proofs.Head.{head_kept, lent_kept}

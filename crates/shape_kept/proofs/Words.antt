@@ -26,7 +26,8 @@ use Rattle.shape_facts.proofs.Made.{length_cleared}
 use Rattle.shape_facts.proofs.Clear.{length_clear}
 use Rattle.shape_facts.proofs.Leaves.{released_stays}
 use Rattle.machine.specs.Turn.{Turn, with_live, clear_slot}
-use Rattle.machine.specs.Create.{Asked, slots_of, granted}
+use Rattle.state.specs.declared.Asked.{Asked}
+use Rattle.machine.specs.Create.{slots_of, granted}
 use Rattle.machine.specs.Alloc.{pool_for, units_for, search_for, new_size, alloc_marked, alloc_made}
 use Rattle.machine.specs.Release.{less_used, release_units, release_turn}
 use Rattle.machine.specs.Shrink.{shrink_tail}

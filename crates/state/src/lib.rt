@@ -66,6 +66,17 @@ pub fn zero_state() -> State
     }
 }
 
+// What a creation asks for. Of the flags bit 0 asks for three pools and bit 1 for immediate release; the others are ignored.
+#[derive(Clone, Copy)]
+pub struct Asked {
+    pub size: u32,
+    pub granularity: u32,
+    pub flags: u32,
+    pub w: u32,
+    pub arena: u64,
+    pub length: u64,
+}
+
 // A piece of memory: its address, and its size in bytes.
 #[derive(Clone, Copy)]
 pub struct Span {

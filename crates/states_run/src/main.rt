@@ -6,9 +6,9 @@
 ghost use Rattle.std.specs.Prelude.{◌≡◌, ◌≤◌, length, IfOk};
 
 use block::Block;
-use records::{Asked, Call};
+use records::Call;
 use sizes::Pool;
-use state::{Answer, State};
+use state::{Answer, Asked, State};
 use std::io;
 use std::io::Read;
 
