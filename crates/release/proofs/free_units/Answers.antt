@@ -10,7 +10,7 @@ use Rattle.state.specs.declared.State.{State}
 use Rattle.state.specs.Table.{block_at}
 use Rattle.state.proofs.Lengths.{blocks_64, order_64}
 use Rattle.state.proofs.Lengths as lengths
-use Rattle.shape_facts.proofs.Facts.{count_64, placed}
+use Rattle.shape_facts.proofs.Facts.{placed}
 use Rattle.machine.specs.Turn.{with_live}
 use Rattle.machine.specs.Release.{less_used, settle}
 use Rattle.shape_facts.specs.Ready.{Settles}
@@ -31,18 +31,6 @@ less c = ap (λ (p : Painted). p.block) (painting (c))
 
 stays : (c : After-mark_released_area-less) → let a = c.args in Stays c.mark_released_area-less.result (block_at a.s a.j)
 stays c = let a = c.args in subst (λ (b : Block). Stays b (block_at a.s a.j)) (sym (less (c))) (released_stays (block_at a.s a.j) a.units.from a.units.to)
-
-pub block_at-b-requires : goal.block_at-b-requires
-block_at-b-requires c = let a = c.args in omega (arith, c.requires.stands, count_64 a.s (length a.used.now) (length a.stop.now) c.requires.shaped)
-
-pub mark_released_area-less-requires : goal.mark_released_area-less-requires
-mark_released_area-less-requires c =
-    let a = c.args in
-    rw c.block_at-b.ensures (
-      placed a.s (length a.used.now) (length a.stop.now) c.requires.shaped a.j c.requires.stands,
-      c.requires.in_block,
-      c.requires.counted,
-    )
 
 pub less_used-r-requires : goal.less_used-r-requires
 less_used-r-requires c =
@@ -75,6 +63,3 @@ returns c = λ x.
     c.settle.ensures x
     ∙ ap (λ (r : State). settle x (with_live r live) m.new.used m.new.stop a.j) c.less_used-r.ensures
     ∙ ap (λ (p : Painted). settle x (with_live (less_used a.s a.j p.block (a.units.to - a.units.from)) live) p.used p.stop a.j) (painting (goal.at.returns c).After-mark_released_area-less)
-
-pub overflow_sub-r : goal.overflow_sub-r
-overflow_sub-r c = omega (arith, c.requires.some_live)
