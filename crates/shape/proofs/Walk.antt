@@ -84,20 +84,19 @@ module _ {s : State} {i : ℕ} {seen : List Bool} {pools : List Pool} {total : �
     pub pool_low : (block_at s i).pool < 3
     pool_low = omega (arith, this.pool, head.pools_high)
 
-    pub used_low : (block_at s i).used ≤ 524288
-    used_low = omega (arith, this.used, this.area_high, head.w_high)
+    pub units_low : ((block_at s i).used ≤ 524288) × ((block_at s i).area ≤ 524288)
+    units_low = (omega (arith, this.used, this.area_high, head.w_high), omega (arith, this.area_high, head.w_high))
 
     pub room : Countable (get_or pools (block_at s i).pool (fresh_pool 0)) (block_at s i)
     room =
         let p = (block_at s i).pool in
         let e = at.sums p pool_low in
         let i64 : i ≤ 64 = omega (arith, head.count_slots, head.slots_high) in
-        let new_area : (block_at s i).area ≤ 524288 = omega (arith, this.area_high, head.w_high) in
         record {
           blocks = omega (arith, ap (λ (q : Pool). q.blocks) e, sum_bound i 1 (λ j. one (in_pool s p j)) (λ j l. one-le (in_pool s p j)));
           empty = omega (arith, ap (λ (q : Pool). q.empty) e, sum_bound i 1 (λ j. one (in_pool s p j && is_empty (block_at s j))) (λ j l. one-le (in_pool s p j && is_empty (block_at s j))));
-          area = omega (arith, ap (λ (q : Pool). q.area) e, sum_bound i 524288 (λ j. only (in_pool s p j) (block_at s j).area) (λ j l. only-le (in_pool s p j) (block_at s j).area 524288 (small_area j l)));
-          used = omega (arith, ap (λ (q : Pool). q.used) e, sum_bound i 524288 (λ j. only (in_pool s p j) (block_at s j).used) (λ j l. only-le (in_pool s p j) (block_at s j).used 524288 (small_used j l)), used_low);
+          area = omega (arith, ap (λ (q : Pool). q.area) e, sum_bound i 524288 (λ j. only (in_pool s p j) (block_at s j).area) (λ j l. only-le (in_pool s p j) (block_at s j).area 524288 (small_area j l)), units_low.1);
+          used = omega (arith, ap (λ (q : Pool). q.used) e, sum_bound i 524288 (λ j. only (in_pool s p j) (block_at s j).used) (λ j l. only-le (in_pool s p j) (block_at s j).used 524288 (small_used j l)), units_low.0);
         }
 
     -- its slot was seen

@@ -10,7 +10,7 @@ use Rattle.sizes.specs.declared.Pool.{Pool}
 use Rattle.state.specs.Table.{zero_block, block_at}
 use Rattle.state.proofs.Lists.{front_below, front_at}
 use Rattle.shape.specs.Parts.{block_ok}
-use Rattle.shape.proofs.Walk.{Walked, walk_start, walk_step, walk_done, total_low, used_low, slot_low, pool_low, room, slot_fails, block_fails, pools_fail}
+use Rattle.shape.proofs.Walk.{Walked, walk_start, walk_step, walk_done, total_low, units_low, slot_low, pool_low, room, slot_fails, block_fails, pools_fail}
 use Rattle.shape.proofs.table_ok.Goals.{After-loop-b, Else-not-block_ok, Else-seen-b, then-not-block_ok-via-then-not-block_ok, then-not-block_ok-via-else-not-block_ok+then-seen-b}
 use Rattle.shape.proofs.table_ok.Goals as goal
 
@@ -95,7 +95,7 @@ overflow_add-used c =
       arith,
       used,
       total_low c.requires c.loop-b.invariant (front_below s.count s.blocks i more),
-      used_low c.requires c.loop-b.invariant (front_below s.count s.blocks i more) (good (goal.at.overflow_add-used c).Else-not-block_ok),
+      units_low c.requires c.loop-b.invariant (front_below s.count s.blocks i more) (good (goal.at.overflow_add-used c).Else-not-block_ok),
     )
 
 pub loop-b-preserved : goal.loop-b-preserved
