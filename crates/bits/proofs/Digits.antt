@@ -1,7 +1,7 @@
 -- Laws of a number's digits. Assumes nothing.
 use Prim.Native.Nat.{ℕ, zero, suc, ◌+◌, ◌-◌, ◌*◌, ◌/◌, ◌%◌, ◌^◌, ◌≤◌, ◌<◌, min, max, suc-le-suc}
 use mathlib.Core.Path.{◌≡◌, refl, sym, ap, ap₂, ◌∙◌, subst}
-use mathlib.Core.Logic.{◌⊎◌, ⊎_elim}
+use mathlib.Core.Logic.{⊎_elim}
 use native.Mathlib.Nat.{div-one, div-div-eq-div-mul, mul_comm, mul_assoc, pow-suc, mod-lt, div-add-mod', zero-lt-suc, zero-div, sub-zero, div_self, one-mul, mul-div_cancel, eq-or-lt_of_le, le_trans, mod-le, le_of_suc-le-suc, not-suc-le-zero, mul-le-mul_right, div-mul-le_self}
 use native.Mathlib.Omega.{arith}
 use native.Mathlib.Numerals.{add-one}

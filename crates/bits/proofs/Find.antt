@@ -3,7 +3,7 @@ use Prim.Native.Nat.{ℕ, ◌+◌, ◌-◌, ◌*◌, ◌/◌, ◌%◌, ◌^◌, 
 use mathlib.Core.Path.{◌≡◌, sym, ap, ◌∙◌, subst}
 use mathlib.Core.Bool.{Bool, true, false}
 use mathlib.Core.List.{List}
-use mathlib.Core.Logic.{◌⊎◌, ⊎_elim}
+use mathlib.Core.Logic.{⊎_elim}
 use native.Mathlib.Nat.{mod-lt}
 use native.Mathlib.Omega.{arith}
 use mir.Val.{bool_byte}
@@ -12,7 +12,7 @@ use lib.Count.{count_trailing_zeros}
 use lib.ListN.{length, get_or}
 use lib.Pow.{pow_pos, ones_sub-lt}
 use Rattle.numbers.proofs.Split.{le-or-lt, same_of_not-lt}
-use Rattle.bits.specs.Bits.{digit, bit, Words, FirstAt}
+use Rattle.bits.specs.Bits.{digit, bit, FirstAt}
 use Rattle.bits.specs.Walk.{flipped, Seen}
 use Rattle.bits.proofs.Digits.{digit-lt, digit_of_zero, digit-and, digit-mod, digit-not, digit_ones, digit-shl_low, digit-shl_high, tz_below, tz_at, tz_lt}
 use Rattle.bits.proofs.Words.{bit_at}
@@ -45,16 +45,16 @@ mask_high b j h l =
 -- ---- a walk from p to end (`Seen`)
 
 -- at a word that p is not behind
-pub seen_word : (ws : List ℕ) (end p : ℕ) (b : Bool) (at : ℕ) → Words ws → at < length ws → p ≤ 32 * at
+pub seen_word : (ws : List ℕ) (end p : ℕ) (b : Bool) (at : ℕ) → get_or ws at 0 < 2 ^ 32 → at < length ws → p ≤ 32 * at
     → ((k : ℕ) → p ≤ k → k < 32 * at → k < end → bit ws k ≡ bool_byte b → ⊥)
     → Seen ws end p (bool_byte b) at (flipped (get_or ws at 0) b)
 seen_word ws end p b at hw l s h = record {
   stands = omega arith;
   near = omega arith;
-  fits = flipped-lt (get_or ws at 0) b (hw at);
+  fits = flipped-lt (get_or ws at 0) b hw;
   before = h;
-  zeros = λ j g q t e f. flip_zero (get_or ws at 0) b j (hw at) g e (sym (bit_at ws at j g) ∙ f);
-  ones = λ j g e. (l, omega arith, bit_at ws at j g ∙ flip_one (get_or ws at 0) b j (hw at) g e);
+  zeros = λ j g q t e f. flip_zero (get_or ws at 0) b j hw g e (sym (bit_at ws at j g) ∙ f);
+  ones = λ j g e. (l, omega arith, bit_at ws at j g ∙ flip_one (get_or ws at 0) b j hw g e);
 }
 
 -- the digits from i on of a word: `x & (0xffff_ffff << i)`
@@ -89,8 +89,26 @@ seen_from ws end p v at bits i s h l = record {
       (was.0, omega (arith, o.0), was.2);
 }
 
+-- at a word that p is not behind, or in it: without the bits before p
+pub seen_masked : (ws : List ℕ) (end p : ℕ) (b : Bool) (at mask : ℕ) → get_or ws at 0 < 2 ^ 32 → at < length ws → p ≤ 32 * at + 32
+    → ((k : ℕ) → p ≤ k → k < 32 * at → k < end → bit ws k ≡ bool_byte b → ⊥) → mask ≡ 4294967295 * 2 ^ (p - 32 * at) % 2 ^ 32
+    → Seen ws end p (bool_byte b) at (bit_and (flipped (get_or ws at 0) b) mask)
+seen_masked ws end p b at mask hw l s h m =
+    let w = flipped (get_or ws at 0) b in
+    rw m record {
+      stands = omega arith;
+      near = s;
+      fits = from_lt w (p - 32 * at) (flipped-lt (get_or ws at 0) b hw);
+      before = h;
+      zeros = λ j g q t e f.
+          flip_zero (get_or ws at 0) b j hw g (sym (from_high w (p - 32 * at) j (omega arith) g) ∙ e) (sym (bit_at ws at j g) ∙ f);
+      ones = λ j g e.
+          let o = from_one w (p - 32 * at) j g e in
+          (l, omega (arith, o.0), bit_at ws at j g ∙ flip_one (get_or ws at 0) b j hw g o.1);
+    }
+
 -- the first word, without the bits before p
-pub seen_first : (ws : List ℕ) (end p : ℕ) (b : Bool) → Words ws → p < 32 * length ws
+pub seen_first : (ws : List ℕ) (end p : ℕ) (b : Bool) → get_or ws (p / 32) 0 < 2 ^ 32 → p < 32 * length ws
     → Seen ws end p (bool_byte b) (p / 32) (from_digit (flipped (get_or ws (p / 32) 0) b) (p % 32))
 seen_first ws end p b hw l =
     subst (λ (n : ℕ). Seen ws end n (bool_byte b) (p / 32) (from_digit (flipped (get_or ws (p / 32) 0) b) (p % 32))) (whole p)

@@ -8,15 +8,14 @@ fn put_bits(buf: &mut [u32], index: usize, count: usize, value: bool)
     requires { (index + count ≤ 32 * length buf.old) × (length buf.old < 2 ^ 32) }
     ensures { Filled buf.old index count (bool_byte value) buf.new }
 {
-    let mut i: usize = 0;
-    while i < count {
+    for i in 0..count {
         crate::bit_vector_set_bit(buf, index + i, value);
-        i += 1;
     }
 }
 
-// Sets or clears, as the Rust's macro does. It lends on only the words from the first one that changes.
-fn bitvector_op(buf: &mut [u32], index: usize, count: usize, value: bool)
+// Writes `value` to the `count` bits from `index` on: the body of the Rust's macro `bitvector_op`. It lends on only the words from the first
+// one that changes.
+pub fn bit_vector_set_bits(buf: &mut [u32], index: usize, count: usize, value: bool)
     requires { (index + count ≤ 32 * length buf.old) × (length buf.old < 2 ^ 32) }
     ensures { Filled buf.old index count (bool_byte value) buf.new }
 {
@@ -29,12 +28,12 @@ pub fn bit_vector_fill(buf: &mut [u32], index: usize, count: usize)
     requires { (index + count ≤ 32 * length buf.old) × (length buf.old < 2 ^ 32) }
     ensures { Filled buf.old index count 1 buf.new }
 {
-    bitvector_op(buf, index, count, true);
+    bit_vector_set_bits(buf, index, count, true);
 }
 
 pub fn bit_vector_clear(buf: &mut [u32], index: usize, count: usize)
     requires { (index + count ≤ 32 * length buf.old) × (length buf.old < 2 ^ 32) }
     ensures { Filled buf.old index count 0 buf.new }
 {
-    bitvector_op(buf, index, count, false);
+    bit_vector_set_bits(buf, index, count, false);
 }

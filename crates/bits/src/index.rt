@@ -16,15 +16,15 @@ pub fn bit_vector_index_of(buf: &[u32], start: usize, value: bool) -> usize
     requires { (start < 32 * length buf.now) × (length buf.now < 2 ^ 32) }
     ensures { FirstAt buf.now start (bool_byte value) result }
 {
-    let mut vec_index = start / 32;
+    // what of a word is looked at: all of it, but for the first word
     let bit_index = (start % 32) as u32;
-    let mut bits = flip(buf[vec_index], value) & (0xffff_ffff << bit_index);
-    while bits == 0 {
-        vec_index += 1;
-        if vec_index == buf.len() {
-            return vec_index * 32;
+    let mut mask = u32::MAX << bit_index;
+    for i in start / 32..buf.len() {
+        let bits = flip(buf[i], value) & mask;
+        if bits != 0 {
+            return i * 32 + bits.trailing_zeros() as usize;
         }
-        bits = flip(buf[vec_index], value);
+        mask = u32::MAX;
     }
-    vec_index * 32 + u32::trailing_zeros(bits) as usize
+    buf.len() * 32
 }

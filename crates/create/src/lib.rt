@@ -31,8 +31,8 @@ fn slots_of(w: usize, used: usize, stop: usize) -> usize
     requires { 0 < w }
     ensures { result ≡ slots_of w used stop }
 {
-    let words = numbers::lesser(used, stop);
-    numbers::lesser(state::SLOT_LIMIT, words / w)
+    let words = used.min(stop);
+    state::SLOT_LIMIT.min(words / w)
 }
 
 // True if W, the slot count and the arena are in range. It tests W first, since `slots_of` divides by it.

@@ -4,6 +4,7 @@
 
 ghost use Rattle.std.specs.Prelude.{◌≡◌, length};
 
+use runs::ranges::BitVectorRangeIterator;
 use std::io;
 
 fn number(rt: &impl Print, n: u64) -> io::Result<()> {
@@ -303,29 +304,11 @@ fn run(rt: &impl Print, start: usize, end: usize) -> io::Result<()> {
     print!(rt; " {start}-{end}")
 }
 
-// Writes the runs that a walk yields. None is cut, since no run of three words is as long as 97. `fuel` bounds the loop for the checker.
+// Writes the runs that a walk yields.
 fn walk(rt: &impl Print, words: &[u32], start: usize, end: usize) -> io::Result<()> {
-    if words.len() == 3 {
-        if start <= 96 {
-            if end <= 96 {
-                let w = runs::start_walk(words, start, end);
-                let mut at = w.at;
-                let mut word = w.word;
-                let mut fuel: usize = 97;
-                while 0 < fuel {
-                    if 3 < at {
-                        return Ok(());
-                    }
-                    let got = runs::walker::step(words, at, word, end, 97);
-                    let runs::Next::Run(s, e, next) = got else {
-                        return Ok(());
-                    };
-                    run(rt, s, e)?;
-                    at = next.at;
-                    word = next.word;
-                    fuel -= 1;
-                }
-            }
+    if words.len() == 3 && start <= 96 && end <= 96 {
+        for r in BitVectorRangeIterator::new(words, start, end) {
+            run(rt, r.start, r.end)?;
         }
     }
     Ok(())

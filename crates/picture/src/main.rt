@@ -146,7 +146,7 @@ fn draw_units(
     let mut rows: u64 = 0;
     let mut i: usize = 0;
     while i < end {
-        let to = numbers::lesser(i + 64, end);
+        let to = (i + 64).min(end);
         let kind = row_kind(used, stop, base, i, to);
         if kind != last {
             passed(rt, last, rows)?;

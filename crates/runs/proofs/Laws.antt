@@ -1,25 +1,35 @@
 -- Laws of a walk over the runs of clear bits. Assumes nothing.
-use Prim.Native.Nat.{ℕ, ◌+◌, ◌-◌, ◌*◌, ◌^◌, ◌≤◌, ◌<◌, min, max}
+use Prim.Native.Nat.{ℕ, ◌+◌, ◌-◌, ◌*◌, ◌%◌, ◌^◌, ◌≤◌, ◌<◌, min, max}
 use mathlib.Core.Path.{◌≡◌, sym, ap, ◌∙◌, subst}
 use mathlib.Core.Bool.{false}
 use mathlib.Core.List.{List}
 use mathlib.Core.Logic.{◌⊎◌, inl, inr, ⊎_elim}
-use native.Mathlib.Nat.{eq-zero-or-pos}
 use native.Mathlib.Omega.{arith}
+use lib.Bits.{and_le_l}
 use lib.Dec.{lit<}
 use lib.Count.{count_trailing_zeros}
 use lib.ListN.{length, get_or}
-use Rattle.numbers.proofs.Split.{le-or-lt}
-use Rattle.bits.specs.Bits.{digit, bit, Words}
+use Rattle.std.specs.Prelude.{Option}
+use Rattle.std.specs.declared.ops.Range.{Range}
+use Rattle.numbers.proofs.Split.{le-or-lt, by_eq}
+use Rattle.bits.specs.Bits.{digit, bit}
 use Rattle.bits.specs.Walk.{flipped, Seen}
 use Rattle.bits.proofs.Digits.{digit-lt, digit_of_zero, tz_below, tz_at, tz_lt}
 use Rattle.bits.proofs.Words.{bit-lt, bit_at}
-use Rattle.bits.proofs.Find.{flipped-lt, flip_one, flip_zero, from_digit, from_lt, from_high, from_one, seen_word, seen_from, lowest}
-use Rattle.runs.specs.Window.{FreeAt, UsedIn, NoFit, Lowest, Tightened, Sought, FreeRun}
-use Rattle.runs.specs.Walk.{ClearIn, Ends, RunFrom}
-use Rattle.runs.specs.declared.Search.{Search}
-use Rattle.runs.specs.declared.Search.TheVariants.{Tight, Full}
-use Rattle.runs.specs.declared.Walk.{Walk}
+use Rattle.bits.proofs.Find.{flipped-lt, flip_one, flip_zero, from_digit, from_lt, from_low, from_high, from_one, seen_word, seen_from, lowest}
+use Rattle.runs.specs.Window.{FreeAt, UsedIn, NoFit, Lowest, Tightened, FreeRun}
+use Rattle.runs.specs.Walk.{ClearIn, Ends}
+use Rattle.runs.specs.Steps.{HasSeen, SameWindow, RunFrom, Stepped, StepAnswer}
+use Rattle.runs.specs.declared.ranges.BitVectorRangeIterator.{BitVectorRangeIterator}
+
+-- what holds of the words and of the window's end after a step holds of them before it
+pub in_window : (P : List ℕ → ℕ → Type 0) (w v : BitVectorRangeIterator) → SameWindow w v → P v.slice.now v.end → P w.slice.now w.end
+in_window P w v s p = subst (λ (e : ℕ). P w.slice.now e) s.end (subst (λ (ws : List ℕ). P ws v.end) s.words p)
+
+-- what a step answers of a walk that was only moved on, it answers of the walk before
+pub step_after : (w u v : BitVectorRangeIterator) (hint : ℕ) (r : Option (Range ℕ)) → SameWindow w u → ((p : ℕ) → HasSeen w p → HasSeen u p)
+    → StepAnswer u v hint r → StepAnswer w v hint r
+step_after w u v hint r s moved f p h = in_window (λ (ws : List ℕ) (e : ℕ). Stepped ws e hint p r v) w u s (f p (moved p h))
 
 pub used_is : (ws : List ℕ) (k : ℕ) → (bit ws k ≡ 0 → ⊥) → bit ws k ≡ 1
 used_is ws k h = omega (arith, h, bit-lt ws k)
@@ -69,6 +79,31 @@ run_clear ws end p at word t s l z k q r =
     sym (ap (bit ws) (back k at (omega arith)))
     ∙ (s.ones (k - 32 * at) (omega arith) (run_digit word (k - 32 * at) s.fits (omega arith) (omega arith) (z (k - 32 * at) (omega arith)))).2
 
+-- a run taken out of its word leaves less of it
+pub run_taken : (word : ℕ) → word < 2 ^ 32 → (word ≡ 0 → ⊥) → (rest_of word ≡ 0 → ⊥)
+    → from_digit word (count_trailing_zeros 32 (rest_of word)) < word
+run_taken word h ne nr =
+    by_eq (from_digit word j) word
+    (λ e. absurd (omega (arith, ap (λ (n : ℕ). digit n i) e, from_low word j i before short, tz_at 32 word short)))
+    (λ d. omega (arith, d, and_le_l word (4294967295 * 2 ^ j % 2 ^ 32)))
+  where
+    i : ℕ
+    i = count_trailing_zeros 32 word
+
+    j : ℕ
+    j = count_trailing_zeros 32 (rest_of word)
+
+    short : i < 32
+    short = tz_lt 32 word h ne
+
+    before : i < j
+    before =
+        let t : j < 32 = tz_lt 32 (rest_of word) (from_lt (flipped word false) i (flipped-lt word false h)) nr in
+        let f = from_one (flipped word false) i j t (tz_at 32 (rest_of word) t) in
+        let zj : digit word j ≡ 0 = flip_one word false j h t f.1 in
+        let other : i ≡ j → ⊥ = λ q. omega (arith, zj, tz_at 32 word short, ap (digit word) q) in
+        omega (arith, f.0, other)
+
 pub ends_here : (ws : List ℕ) (end hint p at word start e : ℕ) → Seen ws end p 0 at word → (word ≡ 0 → ⊥) → (rest_of word ≡ 0 → ⊥)
     → start ≡ 32 * at + count_trailing_zeros 32 word → start < end → e ≡ min (32 * at + count_trailing_zeros 32 (rest_of word)) end
     → Ends ws start end hint e at (from_digit word (count_trailing_zeros 32 (rest_of word)))
@@ -98,13 +133,13 @@ ends_here ws end hint p at word start e s ne nr hs he h =
     at_stop q = omega arith
 
 -- ---- a run that goes on into word at, whose lowest bit in use is j
-pub ends_later : (ws : List ℕ) (start end hint at e : ℕ) → Words ws → at < length ws → (get_or ws at 0 ≡ 0 → ⊥) → start < 32 * at → start < end
+pub ends_later : (ws : List ℕ) (start end hint at e : ℕ) → get_or ws at 0 < 2 ^ 32 → at < length ws → (get_or ws at 0 ≡ 0 → ⊥) → start < 32 * at → start < end
     → ClearIn ws start (32 * at) end → e ≡ min (32 * at + count_trailing_zeros 32 (get_or ws at 0)) end
     → Ends ws start end hint e at (from_digit (flipped (get_or ws at 0) false) (count_trailing_zeros 32 (get_or ws at 0)))
 ends_later ws start end hint at e hw l ne hs he c h =
     let w = get_or ws at 0 in
     let j = count_trailing_zeros 32 w in
-    let t : j < 32 = tz_lt 32 w (hw at) ne in
+    let t : j < 32 = tz_lt 32 w hw ne in
     record {
       some = omega arith;
       inside = omega arith;
@@ -125,7 +160,7 @@ zero_word ws at k e p q =
     sym (ap (bit ws) (back k at p)) ∙ bit_at ws at (k - 32 * at) (omega arith) ∙ ap (λ (x : ℕ). digit x (k - 32 * at)) e ∙ digit_of_zero (k - 32 * at)
 
 -- ---- a search for n clear bits: what a run tells
-pub fit_here : (ws : List ℕ) (a end n p start e : ℕ) (w : Walk) → 0 < n → a ≤ p → NoFit ws end n a p → RunFrom ws end n p start e w → n ≤ e - start
+pub fit_here : (ws : List ℕ) (a end n p start e : ℕ) (w : BitVectorRangeIterator) → 0 < n → a ≤ p → NoFit ws end n a p → RunFrom ws end n p start e w → n ≤ e - start
     → Lowest ws a end n start
 fit_here ws a end n p start e w h l none r g = record {
   low = omega (arith, r.low);
@@ -136,7 +171,7 @@ fit_here ws a end n p start e w h l none r g = record {
       (λ v. none i q v u f) (le-or-lt p i);
 }
 
-pub fit_later : (ws : List ℕ) (a end n p start e : ℕ) (w : Walk) → 0 < n → NoFit ws end n a p → RunFrom ws end n p start e w → e - start < n
+pub fit_later : (ws : List ℕ) (a end n p start e : ℕ) (w : BitVectorRangeIterator) → 0 < n → NoFit ws end n a p → RunFrom ws end n p start e w → e - start < n
     → NoFit ws end n a e
 fit_later ws a end n p start e w h none r g i q t u f =
     ⊎_elim
@@ -153,7 +188,7 @@ fit_none ws a end n p h none c i q t u f =
 fit_mono : (ws : List ℕ) (end n m a b : ℕ) → n ≤ m → NoFit ws end n a b → NoFit ws end m a b
 fit_mono ws end n m a b l h i q t u f = h i q t (omega arith) (λ k x y. f k x (omega arith))
 
-run_hint : (ws : List ℕ) (end n m p start e : ℕ) (w : Walk) → RunFrom ws end n p start e w → e - start < n → RunFrom ws end m p start e w
+run_hint : (ws : List ℕ) (end n m p start e : ℕ) (w : BitVectorRangeIterator) → RunFrom ws end n p start e w → e - start < n → RunFrom ws end m p start e w
 run_hint ws end n m p start e w r g = record {
   low = r.low;
   used = r.used;
@@ -170,70 +205,59 @@ pub record Part (ws : List ℕ) (a end p first most : ℕ) : Type 0 where
   pub closes : bit ws (p - 1) ≡ 0
   pub place : (i : ℕ) × (a ≤ i) × (i + most ≤ p) × FreeAt ws most i
 
+-- up to p, the end of a run: the longest run has most units, fewer than n
 pub record Known (ws : List ℕ) (a end n p first most : ℕ) : Type 0 where
-  pub low : a ≤ p
+  pub part : Part ws a end p first most
   pub less : most < n
-  pub none : most ≡ 0 → UsedIn ws a p
-  pub part : 0 < most → Part ws a end p first most
   pub longest : NoFit ws end (most + 1) a p
 
-pub known_start : (ws : List ℕ) (a end n : ℕ) → 0 < n → Known ws a end n a a 0
-known_start ws a end n h = record {
-  low = omega arith;
-  less = h;
-  none = λ e k p q. absurd (omega arith);
-  part = λ q. absurd (omega arith);
-  longest = λ i p q. absurd (omega arith);
+pub no_fit_yet : (ws : List ℕ) (end n a : ℕ) → NoFit ws end n a a
+no_fit_yet ws end n a i p q = absurd (omega arith)
+
+pub known_first : (ws : List ℕ) (a end n s e : ℕ) (w : BitVectorRangeIterator) → RunFrom ws end n a s e w → e - s < n
+    → Known ws a end n e s (e - s)
+known_first ws a end n s e w r g = record {
+  part = record {
+    low = r.low;
+    some = r.ends.some;
+    high = r.ends.inside;
+    before = r.used;
+    opens = r.ends.free s (omega arith) r.ends.some;
+    closes = r.ends.free (e - 1) (omega (arith, r.ends.some)) (omega (arith, r.ends.some));
+    place = (s, r.low, omega (arith, r.ends.some), λ k q t. r.ends.free k q (omega (arith, r.ends.some)));
+  };
+  less = g;
+  longest = fit_later ws a end (e - s + 1) a s e w (omega arith) (no_fit_yet ws end (e - s + 1) a) (run_hint ws end n (e - s + 1) a s e w r g) (omega arith);
 }
 
-known_part : (ws : List ℕ) (a end n p first most s e : ℕ) (w : Walk) (f m : ℕ) → Known ws a end n p first most → RunFrom ws end n p s e w
-    → (most ≡ 0 → f ≡ s) → (0 < most → f ≡ first) → m ≡ max most (e - s) → Part ws a end e f m
-known_part ws a end n p first most s e w f m x r f0 f1 h =
-    ⊎_elim
-    (λ (z : most ≡ 0).
+pub known_next : (ws : List ℕ) (a end n p first most s e m : ℕ) (w : BitVectorRangeIterator) → Known ws a end n p first most
+    → RunFrom ws end n p s e w → e - s < n → m ≡ max most (e - s) → Known ws a end n e first m
+known_next ws a end n p first most s e m w x r g h =
+    let y = x.part in
     record {
-      low = omega (arith, f0 z, x.low, r.low);
-      some = omega (arith, f0 z, r.ends.some);
-      high = r.ends.inside;
-      before = λ k q t. ⊎_elim (λ g. r.used k g (omega (arith, f0 z))) (λ g. x.none z k q g) (le-or-lt p k);
-      opens = ap (bit ws) (f0 z) ∙ r.ends.free s (omega arith) r.ends.some;
-      closes = r.ends.free (e - 1) (omega (arith, r.ends.some)) (omega (arith, r.ends.some));
-      place = (s, omega (arith, x.low, r.low), omega (arith, r.ends.some), λ k q t. r.ends.free k q (omega (arith, r.ends.some)));
-    })
-    (λ (z : 0 < most).
-    let y = x.part z in
-    record {
-      low = omega (arith, f1 z, y.low);
-      some = omega (arith, f1 z, y.some, r.low, r.ends.some);
-      high = r.ends.inside;
-      before = λ k q t. y.before k q (omega (arith, f1 z));
-      opens = ap (bit ws) (f1 z) ∙ y.opens;
-      closes = r.ends.free (e - 1) (omega (arith, r.ends.some)) (omega (arith, r.ends.some));
-      place = ⊎_elim
-          (λ (g : most ≤ e - s).
-          (s, omega (arith, x.low, r.low), omega (arith, r.ends.some), λ k q t. r.ends.free k q (omega (arith, r.ends.some))))
-          (λ g.
-          let i = y.place.0 in
-          (i, y.place.1, omega (arith, y.place.2, r.low, r.ends.some), λ k q t. y.place.3 k q (omega arith)))
-          (le-or-lt most (e - s));
-    })
-    (eq-zero-or-pos most)
+      part = record {
+        low = y.low;
+        some = omega (arith, y.some, r.low, r.ends.some);
+        high = r.ends.inside;
+        before = y.before;
+        opens = y.opens;
+        closes = r.ends.free (e - 1) (omega (arith, r.ends.some)) (omega (arith, r.ends.some));
+        place = ⊎_elim
+            (λ (q : most ≤ e - s).
+            (s, omega (arith, y.low, y.some, r.low), omega (arith, r.ends.some), λ k t u. r.ends.free k t (omega (arith, r.ends.some))))
+            (λ q.
+            let i = y.place.0 in
+            (i, y.place.1, omega (arith, y.place.2, r.low, r.ends.some), λ k t u. y.place.3 k t (omega arith)))
+            (le-or-lt most (e - s));
+      };
+      less = omega (arith, x.less);
+      longest = fit_later ws a end (m + 1) p s e w (omega arith) (fit_mono ws end (most + 1) (m + 1) a p (omega arith) x.longest)
+          (run_hint ws end n (m + 1) p s e w r g) (omega arith);
+    }
 
-pub known_run : (ws : List ℕ) (a end n p first most s e : ℕ) (w : Walk) (f m : ℕ) → Known ws a end n p first most → RunFrom ws end n p s e w → e - s < n
-    → (most ≡ 0 → f ≡ s) → (0 < most → f ≡ first) → m ≡ max most (e - s) → Known ws a end n e f m
-known_run ws a end n p first most s e w f m x r g f0 f1 h = record {
-  low = omega (arith, x.low, r.low, r.ends.some);
-  less = omega (arith, x.less);
-  none = λ z k q t. absurd (omega (arith, r.ends.some));
-  part = λ q. known_part ws a end n p first most s e w f m x r f0 f1 h;
-  longest = fit_later ws a end (m + 1) p s e w (omega arith) (fit_mono ws end (most + 1) (m + 1) a p (omega arith) x.longest)
-      (run_hint ws end n (m + 1) p s e w r g) (omega arith);
-}
-
-pub known_end : (ws : List ℕ) (a end n p first most : ℕ) → Known ws a end n p first most → UsedIn ws p end
-    → 0 < most → Tightened ws a end first p most
-known_end ws a end n p first most x h z =
-    let y = x.part z in
+pub known_end : (ws : List ℕ) (a end n p first most : ℕ) → Known ws a end n p first most → UsedIn ws p end → Tightened ws a end first p most
+known_end ws a end n p first most x h =
+    let y = x.part in
     record {
       low = y.low;
       some = y.some;
@@ -246,22 +270,11 @@ known_end ws a end n p first most x h z =
       none_longer = fit_none ws a end (most + 1) p (omega arith) x.longest h;
     }
 
-pub known_full : (ws : List ℕ) (a end n p first most : ℕ) → Known ws a end n p first most → UsedIn ws p end
-    → most ≡ 0 → UsedIn ws a end
-known_full ws a end n p first most x h z k q t = ⊎_elim (λ g. h k g t) (λ g. x.none z k q g) (le-or-lt p k)
-
 pub known_fit : (ws : List ℕ) (a end n p first most : ℕ) → Known ws a end n p first most → NoFit ws end n a p
 known_fit ws a end n p first most x = fit_mono ws end (most + 1) n a p (omega (arith, x.less)) x.longest
 
-pub known_sought : (ws : List ℕ) (a end n p first most : ℕ) (r : Search) → Known ws a end n p first most → UsedIn ws p end
-    → (most ≡ 0 → r ≡ Full) × (0 < most → r ≡ Tight first p most) → Sought ws a end n r
-known_sought ws a end n p first most r x h e =
-    ⊎_elim
-    (λ z. subst (Sought ws a end n) (sym (e.0 z)) (known_full ws a end n p first most x h z))
-    (λ z. subst (Sought ws a end n) (sym (e.1 z)) (known_end ws a end n p first most x h z, x.less)) (eq-zero-or-pos most)
-
 -- ---- the runs that a walk yields are the maximal ones of the window that starts at a, from its start or from where the last one stopped
-pub run_maximal : (ws : List ℕ) (a end hint p start e : ℕ) (w : Walk) → RunFrom ws end hint p start e w → a ≤ p → (p ≡ a) ⊎ (bit ws p ≡ 1)
+pub run_maximal : (ws : List ℕ) (a end hint p start e : ℕ) (w : BitVectorRangeIterator) → RunFrom ws end hint p start e w → a ≤ p → (p ≡ a) ⊎ (bit ws p ≡ 1)
     → e - start < hint → FreeRun ws a end start e
 run_maximal ws a end hint p start e w r l from g = record {
   low = omega (arith, r.low);

@@ -1,3 +1,4 @@
 pub mod Window
 pub mod Walk
+pub mod Steps
 pub mod Seek

@@ -1,11 +1,7 @@
--- The walk over the runs of free units in a window that ends at end. Assumes nothing.
+-- Runs of free units in a window that ends at end. Assumes nothing.
 use Rattle.std.specs.Prelude.{ℕ, ◌-◌, ◌*◌, ◌^◌, ◌≤◌, ◌<◌, List, ◌≡◌, length}
 use Rattle.bits.specs.Bits.{bit}
 use Rattle.bits.specs.Walk.{Seen}
-use Rattle.runs.specs.Window.{UsedIn}
-use Rattle.runs.specs.declared.Walk.{Walk}
-use Rattle.runs.specs.declared.Next.{Next}
-use Rattle.runs.specs.declared.Next.TheVariants.{Run, Done}
 
 -- a walk that stands at a word, in a window of the map
 pub record Stands (ws : List ℕ) (at end : ℕ) : Type 0 where
@@ -25,19 +21,3 @@ pub record Ends (ws : List ℕ) (from end hint to at word : ℕ) : Type 0 where
   pub free : (k : ℕ) → from ≤ k → k < to → bit ws k ≡ 0
   pub stop : to < end → to - from < hint → bit ws to ≡ 1
   pub next : Seen ws end to 0 at word
-
--- the first run from p on: the units before it are used
-pub record RunFrom (ws : List ℕ) (end hint p from to : ℕ) (w : Walk) : Type 0 where
-  pub low : p ≤ from
-  pub used : UsedIn ws p from
-  pub ends : Ends ws from end hint to w.at w.word
-  pub same : w.end ≡ end
-
--- the answer of a step from p, by its cases
-abbrev pub Stepped : List ℕ → ℕ → ℕ → ℕ → Next → Type 0
-Stepped ws end hint p (Run from to w) = RunFrom ws end hint p from to w
-Stepped ws end hint p Done = UsedIn ws p end
-
--- what a step answers, for every unit p from which the walk has seen what it says
-abbrev pub StepAnswer : List ℕ → ℕ → ℕ → ℕ → ℕ → Next → Type 0
-StepAnswer ws at word end hint r = (p : ℕ) → Seen ws end p 0 at word → Stepped ws end hint p r

@@ -29,19 +29,15 @@ pub fn slot_mut(words: &mut [u32], slot: usize, w: usize) -> &mut [u32]
     &mut words[a..e]
 }
 
-// Sets or clears `n` bits of a slot's words. It stands apart so that `write` only lends.
+// Writes `value` to `n` bits of a slot's words, and says which words these become. It stands apart so that `write` only lends.
 fn put(part: &mut [u32], from: usize, n: usize, value: bool)
     requires { (from + n ≤ 32 * length part.old) × (length part.old < 2 ^ 32) }
     ensures { part.new ≡ filled part.old from n (bool_byte value) }
 {
-    if value {
-        bits::fill::bit_vector_fill(part, from, n);
-    } else {
-        bits::fill::bit_vector_clear(part, from, n);
-    }
+    bits::fill::bit_vector_set_bits(part, from, n, value);
 }
 
-// Sets or clears the `n` units from `from` on of a slot. No other function takes a slot for writing.
+// Sets or clears the `n` units from `from` on of a slot: all marking goes through here.
 pub fn write(words: &mut [u32], slot: usize, w: usize, from: usize, n: usize, value: bool)
     requires { ((slot + 1) * w ≤ length words.old) × (from + n ≤ 32 * w) × (w < 2 ^ 32) }
     ensures { words.new ≡ fill_slot w slot words.old from n (bool_byte value) }
@@ -73,5 +69,7 @@ pub fn clear_slot(words: &mut [u32], slot: usize, w: usize)
     requires { ((slot + 1) * w ≤ length words.old) × (w < 2 ^ 32) }
     ensures { words.new ≡ put_slot w slot words.old (replicate w 0) }
 {
-    unmark(words, slot, w, 0, 32 * w);
+    let a = slot * w;
+    let e = a + w;
+    words[a..e].fill(0);
 }

@@ -1,5 +1,4 @@
 -- `bit_vector_get_bit`: the digit shifted out of its word is the map's bit. Assumes nothing.
-use borrow.Author.Rules.{rules}
 use lib.ListN.{get_or}
 use Prim.Native.Nat.{◌/◌, ◌%◌}
 use Rattle.bits.specs.Bits.{bit}

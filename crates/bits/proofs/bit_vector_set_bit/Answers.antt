@@ -1,6 +1,5 @@
 -- `|` with the bit, and `&` with its complement, put the digit into its word and keep the others (`or_put`, `and_put`). Only that word is
 -- written, so only that bit changes. Assumes nothing.
-use borrow.Author.Rules.{rules}
 use Prim.Native.Nat.{ℕ, ◌*◌, ◌/◌, ◌%◌, ◌<◌}
 use mathlib.Core.List.{List}
 use mathlib.Core.Path.{◌≡◌}

@@ -1,51 +1,73 @@
--- The loop keeps `Known`: up to `passed`, `first` is the first free unit, and the longest free run has `longest` units, fewer than `n`. So
--- the first run of `n` units is the lowest place (`fit_here`); if none comes, the window is tight or full. Assumes nothing.
-use mathlib.Core.Path.{subst}
-use native.Mathlib.Omega.{arith}
-use Rattle.runs.specs.Walk.{Stepped}
-use Rattle.runs.proofs.Laws.{known_run, known_fit, known_sought, fit_here}
+-- The loop keeps `Searches`: what is known of the runs that were passed, all shorter than `n`. So the first run of `n` units is the lowest
+-- place (`fits`); if none comes, the window is tight or full. Assumes nothing.
+use Rattle.std.proofs.Common.{◌∙◌, Some, None, arith}
+use Rattle.runs.specs.Steps.{RunFrom}
+use Rattle.runs.specs.Window.{UsedIn}
+use Rattle.runs.proofs.Passed.{passed_to, stepped, fits, full, tight, first_run, next_run}
+use Rattle.runs.proofs.window.search_window.Goals.{In-Some, In_default}
 use Rattle.runs.proofs.window.search_window.Goals as goal
 
-pub returns-in_default : goal.returns-in_default
-returns-in_default c =
+-- the run that a step answers
+run_of : (c : In-Some) → let a = c.args in let l = c.loop-run in let r = c.in-Some.run' in
+    RunFrom a.words.now a.end a.n (passed_to a.start l.passed) r.start r.end c.next_range.new.self
+run_of c =
     let a = c.args in
-    let l = c.loop-passed in
-    known_sought a.words.now a.start a.end a.n l.passed l.first l.longest c.tight_or_full.result l.invariant.0
-    (subst (Stepped a.words.now a.end a.n l.passed) c.in_default.is (c.step-got.ensures l.passed l.invariant.1)) c.tight_or_full.ensures
+    let l = c.loop-run in
+    stepped a.words.now a.start a.end a.n l.passed l.runs c.next_range.new.self (Some c.in-Some.run') l.invariant c.in-Some.ensures.answer
 
-pub overflow_sub-to : goal.overflow_sub-to
-overflow_sub-to c = omega (arith, (c.in-Run.ensures c.loop-passed.passed c.loop-passed.invariant.1).ends.some)
-
-pub returns-then-n-to : goal.returns-then-n-to
-returns-then-n-to c =
+-- no run is left
+none_from : (c : In_default) → let a = c.args in UsedIn a.words.now (passed_to a.start c.loop-run.passed) a.end
+none_from c =
     let a = c.args in
-    let l = c.loop-passed in
-    let g = c.in-Run in
-    fit_here a.words.now a.start a.end a.n l.passed g.from g.to g.next (omega arith) l.invariant.0.low
-    (known_fit a.words.now a.start a.end a.n l.passed l.first l.longest l.invariant.0) (g.ensures l.passed l.invariant.1) c.if-n-to.true
+    let l = c.loop-run in
+    (stepped a.words.now a.start a.end a.n l.passed l.runs c.next_range.new.self None l.invariant c.in_default.ensures.answer).0
 
-pub overflow_sub-to-in-loop-passed : goal.overflow_sub-to-in-loop-passed
-overflow_sub-to-in-loop-passed c = omega (arith, (c.in-Run.ensures c.loop-passed.passed c.loop-passed.invariant.1).ends.some)
+pub overflow_sub-length : goal.overflow_sub-length
+overflow_sub-length c = omega (arith, (run_of (goal.at.overflow_sub-length c).In-Some).ends.some)
 
-pub loop-passed-smaller : goal.loop-passed-smaller
-loop-passed-smaller c =
-    let r = c.in-Run.ensures c.loop-passed.passed c.loop-passed.invariant.1 in
-    omega (arith, r.low, r.ends.some, c.loop-passed-test.true)
-
-pub loop-passed-preserved : goal.loop-passed-preserved
-loop-passed-preserved c =
+pub returns-then-n-length : goal.returns-then-n-length
+returns-then-n-length c =
     let a = c.args in
-    let l = c.loop-passed in
-    let g = c.in-Run in
-    let r = g.ensures l.passed l.invariant.1 in (
-      known_run a.words.now a.start a.end a.n l.passed l.first l.longest g.from g.to g.next c.first_start-first.result c.greater-longest.result
-          l.invariant.0 r c.if-n-to.false c.first_start-first.ensures.0 c.first_start-first.ensures.1 c.greater-longest.ensures,
-      r.ends.next,
-    )
+    let l = c.loop-run in
+    let r = c.in-Some.run' in
+    fits a.words.now a.start a.end a.n l.passed r.start r.end c.next_range.new.self (omega arith) l.invariant.known
+    (run_of (goal.at.returns-then-n-length c).In-Some) c.if-n-length.true
 
-pub returns : goal.returns
-returns c =
+pub loop-run-preserved-in-None : goal.loop-run-preserved-in-None
+loop-run-preserved-in-None c =
     let a = c.args in
-    let l = c.loop-passed in
-    known_sought a.words.now a.start a.end a.n l.passed l.first l.longest c.tight_or_full-2.result l.invariant.0
-    (λ k p q. absurd (omega (arith, c.loop-passed-test.false))) c.tight_or_full-2.ensures
+    let l = c.loop-run in
+    let r = c.in-Some.run' in
+    let run = run_of (goal.at.loop-run-preserved-in-None c).In-Some in
+    record {
+      words = c.in-Some.ensures.same_window.words ∙ l.invariant.words;
+      until = c.in-Some.ensures.same_window.end ∙ l.invariant.until;
+      known = first_run a.words.now a.start a.end a.n l.passed r.start r.end c.next_range.new.self c.in-None.is run c.if-n-length.false;
+      seen = run.ends.next;
+    }
+
+pub loop-run-preserved : goal.loop-run-preserved
+loop-run-preserved c =
+    let a = c.args in
+    let l = c.loop-run in
+    let r = c.in-Some.run' in
+    let run = run_of (goal.at.loop-run-preserved c).In-Some in
+    record {
+      words = c.in-Some.ensures.same_window.words ∙ l.invariant.words;
+      until = c.in-Some.ensures.same_window.end ∙ l.invariant.until;
+      known = next_run a.words.now a.start a.end a.n l.passed c.in-Some-passed.p r.start r.end c.max.result c.next_range.new.self
+          c.in-Some-passed.is l.invariant.known run c.if-n-length.false c.max.ensures;
+      seen = run.ends.next;
+    }
+
+pub returns-in-None-passed : goal.returns-in-None-passed
+returns-in-None-passed c =
+    let a = c.args in
+    full a.words.now a.start a.end a.n c.loop-run.passed c.in-None-passed.is (none_from (goal.at.returns-in-None-passed c).In_default)
+
+pub returns-in-Some-passed-2 : goal.returns-in-Some-passed-2
+returns-in-Some-passed-2 c =
+    let a = c.args in
+    let l = c.loop-run in
+    tight a.words.now a.start a.end a.n l.passed c.in-Some-passed-2.p c.in-Some-passed-2.is l.invariant.known
+    (none_from (goal.at.returns-in-Some-passed-2 c).In_default)

@@ -1,10 +1,9 @@
-use Prim.Native.Nat.{◌-◌}
-use Rattle.bits.specs.Walk.{Seen}
-use Rattle.runs.proofs.Laws.{Known}
+use Rattle.runs.specs.Steps.{left}
+use Rattle.runs.proofs.Passed.{Searches}
 use Rattle.runs.proofs.window.search_window.Given as goal
 
-abbrev pub invariant-loop-passed : goal.invariant-loop-passed
-invariant-loop-passed l = Known l.words l.start l.end l.n l.passed l.first l.longest × Seen l.words l.end l.passed 0 l.at l.word
+abbrev pub invariant-loop-run : goal.invariant-loop-run
+invariant-loop-run l = Searches l.words l.start l.end l.n l.passed l.runs
 
-abbrev pub decreases-loop-passed : goal.decreases-loop-passed
-decreases-loop-passed l = l.end - l.passed
+abbrev pub decreases-loop-run : goal.decreases-loop-run
+decreases-loop-run l = left l.runs

@@ -1,10 +1,9 @@
 -- Bit `index % 32` of the words from `index / 32` on is bit `index` of all words, and no word before them changes. So what is `Filled` in
 -- that part is `Filled` in the whole (`filled_lent`). Assumes nothing.
-use borrow.Author.Rules.{rules}
 use native.Mathlib.Omega.{arith}
 use mir.Val.{bool_byte}
 use Rattle.bits.proofs.Filled.{filled_lent}
-use Rattle.bits.proofs.fill.bitvector_op.Goals as goal
+use Rattle.bits.proofs.fill.bit_vector_set_bits.Goals as goal
 
 pub returns : goal.returns
 returns c =
