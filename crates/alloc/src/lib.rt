@@ -6,7 +6,7 @@ ghost use Rattle.machine.specs.Turn.{turn_of};
 ghost use Rattle.machine.specs.Alloc.{alloc_rounded, alloc_turn};
 ghost use Rattle.shape_facts.specs.Ready.{Allocates};
 
-use state::{Hit, Outcome, Refusal, State};
+use state::{Outcome, Refusal, State};
 
 // Grants `bytes` bytes, a rounded size that is not refused, in the first block of its pool that has a place, or in a new one.
 fn alloc_rounded(s: State, used: &mut [u32], stop: &mut [u32], bytes: u64) -> Outcome
@@ -17,16 +17,13 @@ fn alloc_rounded(s: State, used: &mut [u32], stop: &mut [u32], bytes: u64) -> Ou
     let q = s.pools[p];
     let n = numbers::area_size_from_byte_size(bytes, q.granularity);
     let found = alloc_search::search_pool(s, used, p, n);
-    let hit = found.hit;
     let r = found.state;
-    match hit {
-        Hit::At(j, i) => {
-            return alloc_mark::mark_span(r, used, stop, j, i, n);
-        }
-        Hit::Nowhere => {
+    match found.hit {
+        Some(hit) => alloc_mark::mark_span(r, used, stop, hit.age, hit.unit, n),
+        None => {
             let newest = table::newest_size(r, p);
             let size = sizes::calculate_ideal_block_size(newest, bytes);
-            return alloc_new::new_span(r, used, stop, p, n, size);
+            alloc_new::new_span(r, used, stop, p, n, size)
         }
     }
 }

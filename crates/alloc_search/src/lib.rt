@@ -6,22 +6,21 @@ ghost use Rattle.numbers.specs.Pick.{pick};
 ghost use Rattle.sizes.specs.Limits.{slot_limit};
 ghost use Rattle.block.specs.Record.{Placed};
 ghost use Rattle.block.specs.Search.{look_into};
-ghost use Rattle.block.specs.declared.Looked.TheVariants.{Missed};
 ghost use Rattle.state.specs.Table.{block_at};
 ghost use Rattle.machine.specs.Alloc.{search_pool};
 
-use block::{Block, Looked};
+use block::Block;
 use state::{Hit, Searched, State};
 
-// Searches one block, if it is in the pool.
-fn look_at(b: Block, used: &[u32], w: usize, pool: usize, n: u32) -> Looked
+// Searches one block, if it is in the pool. One that is not is handed back as it was.
+fn look_at(b: Block, used: &[u32], w: usize, pool: usize, n: u32) -> Result<u32, Block>
     requires { Placed b w (length used.now) (length used.now) × (0 < n) }
-    ensures { result ≡ pick (eqb b.pool pool) (look_into w b used.now n) (Missed b) }
+    ensures { result ≡ pick (eqb b.pool pool) (look_into w b used.now n) (Err b) }
 {
     if b.pool == pool {
         block::look::look_into(b, used, w, n)
     } else {
-        Looked::Missed(b)
+        Err(b)
     }
 }
 
@@ -31,25 +30,19 @@ pub fn search_pool(s: State, used: &[u32], pool: usize, n: u32) -> Searched
     ensures { result ≡ search_pool s used.now pool n }
 {
     let mut r = s;
-    let mut i: usize = 0;
-    while i < r.count {
-        let b = r.blocks[i];
-        let looked = look_at(b, used, r.w, pool, n);
-        match looked {
-            Looked::Found(unit) => {
+    for i in 0..s.count {
+        match look_at(r.blocks[i], used, r.w, pool, n) {
+            Ok(unit) => {
                 return Searched {
-                    hit: Hit::At(i, unit),
+                    hit: Some(Hit { age: i, unit }),
                     state: r,
                 };
             }
-            Looked::Missed(c) => {
-                r.blocks[i] = c;
-            }
+            Err(b) => r.blocks[i] = b,
         }
-        i += 1;
     }
     Searched {
-        hit: Hit::Nowhere,
+        hit: None,
         state: r,
     }
 }

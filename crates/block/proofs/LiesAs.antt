@@ -9,8 +9,7 @@ use Rattle.runs.specs.declared.Search.TheVariants.{At, Tight, Full}
 use Rattle.runs.specs.Seek.{seek}
 use Rattle.slots.specs.Slots.{slot_of}
 use Rattle.block.specs.declared.Block.{Block}
-use Rattle.block.specs.declared.Looked.{Looked}
-use Rattle.block.specs.declared.Looked.TheVariants.{Found, Missed}
+use Rattle.std.specs.Prelude.{Result, Ok, Err}
 use Rattle.block.specs.Record.{with_numbers}
 use Rattle.block.specs.Marking.{marked, released}
 use Rattle.block.specs.Search.{worth_searching, looked, look_into}
@@ -53,16 +52,16 @@ unfolding released
 released_lies b i e = picked (λ (c : Block). LiesAs c b) (eqb (b.used - (e - i)) 0) _ _ (λ x. numbers_lie b _ _ _ _ _) (λ x. numbers_lie b _ _ _ _ _)
 
 -- ---- a search
-abbrev LiesIn : Block → Looked → Type 0
-LiesIn b (Found i) = Unit {0}
-LiesIn b (Missed c) = LiesAs c b
+abbrev LiesIn : Block → Result ℕ Block → Type 0
+LiesIn b (Ok i) = Unit {0}
+LiesIn b (Err c) = LiesAs c b
 
 looked_lies : (b : Block) (r : Search) → LiesIn b (looked b r)
 looked_lies b (At i) = tt
 looked_lies b (Tight first last longest) = numbers_lie b _ _ _ _ _
 looked_lies b Full = lies_refl refl
 
-pub missed_lies : (w : ℕ) (b : Block) (ws : List ℕ) (n : ℕ) (c : Block) → look_into w b ws n ≡ Missed c → LiesAs c b
+pub missed_lies : (w : ℕ) (b : Block) (ws : List ℕ) (n : ℕ) (c : Block) → look_into w b ws n ≡ Err c → LiesAs c b
 unfolding look_into
 missed_lies w b ws n c e =
     subst (LiesIn b) e

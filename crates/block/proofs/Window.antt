@@ -22,8 +22,7 @@ use Rattle.runs.specs.Seek.{seek}
 use Rattle.runs.proofs.Seek.{seek_is}
 use Rattle.slots.specs.Slots.{slot_of}
 use Rattle.block.specs.declared.Block.{Block}
-use Rattle.block.specs.declared.Looked.{Looked}
-use Rattle.block.specs.declared.Looked.TheVariants.{Found, Missed}
+use Rattle.std.specs.Prelude.{Result, Ok, Err}
 use Rattle.block.specs.Search.{is_dirty, worth_searching, looked, tightened, look_into}
 use Rattle.block.specs.Window.{Longest, Windowed}
 
@@ -94,9 +93,9 @@ module _ (b : Block) (u : List ℕ) (s : Windowed b u) where
 -- ---- the search in one block
 module _ (b : Block) (u : List ℕ) (n : ℕ) (s : Windowed b u) (pos : 0 < n) where
   -- what an answer says of the whole block
-  abbrev pub Outcome : Looked → Type 0
-  Outcome (Found i) = Lowest u 0 b.area n i
-  Outcome (Missed c) = NoFit u b.area n 0 b.area × Windowed c u
+  abbrev pub Outcome : Result ℕ Block → Type 0
+  Outcome (Ok i) = Lowest u 0 b.area n i
+  Outcome (Err c) = NoFit u b.area n 0 b.area × Windowed c u
 
   looked_outcome : worth_searching b n ≡ true → (r : Search) → Sought u b.start b.end n r → Outcome (looked b r)
   looked_outcome e (At i) q = (window_law b u s i n pos).0 (e, q)
@@ -105,7 +104,7 @@ module _ (b : Block) (u : List ℕ) (n : ℕ) (s : Windowed b u) (pos : 0 < n) w
   looked_outcome e Full q =
       (window_none b u s n pos (inr (λ i x y z g. omega (arith, q i x y, g i (omega arith) (omega arith)))), s)
 
-  picked : (l : Bool) → worth_searching b n ≡ l → (r : Search) → Sought u b.start b.end n r → Outcome (pick l (looked b r) (Missed b))
+  picked : (l : Bool) → worth_searching b n ≡ l → (r : Search) → Sought u b.start b.end n r → Outcome (pick l (looked b r) (Err b))
   picked true e r q = looked_outcome e r q
   picked false e r q = (window_none b u s n pos (inl e), s)
 
@@ -116,14 +115,14 @@ module _ (w : ℕ) (b : Block) (ws : List ℕ) (n : ℕ) (s : Windowed b (slot_o
       picked b (slot_of w b.slot ws) n s pos (worth_searching b n) refl (seek (slot_of w b.slot ws) b.start b.end n) (seek_is (slot_of w b.slot ws) b.start b.end n pos)
 
   -- found at i, exactly if i is the lowest fit of the whole block
-  pub look_found : (i : ℕ) → (look_into w b ws n ≡ Found i) ↔ Lowest (slot_of w b.slot ws) 0 b.area n i
+  pub look_found : (i : ℕ) → (look_into w b ws n ≡ Ok i) ↔ Lowest (slot_of w b.slot ws) 0 b.area n i
   look_found i = (λ e. subst (Outcome b (slot_of w b.slot ws) n s pos) e look_outcome, λ q. back (look_into w b ws n) look_outcome q)
     where
-      back : (x : Looked) → Outcome b (slot_of w b.slot ws) n s pos x → Lowest (slot_of w b.slot ws) 0 b.area n i → x ≡ Found i
-      back (Found j) o q =
-          ap Found (same_of_not-lt j i (λ l. q.least j o.low l o.high o.free) (λ l. o.least i q.low l q.high q.free))
-      back (Missed c) o q = absurd (o.0 i q.low (omega (arith, q.high)) q.high q.free)
+      back : (x : Result ℕ Block) → Outcome b (slot_of w b.slot ws) n s pos x → Lowest (slot_of w b.slot ws) 0 b.area n i → x ≡ Ok i
+      back (Ok j) o q =
+          ap Ok (same_of_not-lt j i (λ l. q.least j o.low l o.high o.free) (λ l. o.least i q.low l q.high q.free))
+      back (Err c) o q = absurd (o.0 i q.low (omega (arith, q.high)) q.high q.free)
 
   -- missed, exactly if the whole block has no fit; and the block that is left is as sound
-  pub look_missed : (c : Block) → look_into w b ws n ≡ Missed c → NoFit (slot_of w b.slot ws) b.area n 0 b.area × Windowed c (slot_of w b.slot ws)
+  pub look_missed : (c : Block) → look_into w b ws n ≡ Err c → NoFit (slot_of w b.slot ws) b.area n 0 b.area × Windowed c (slot_of w b.slot ws)
   look_missed c e = subst (Outcome b (slot_of w b.slot ws) n s pos) e look_outcome

@@ -1,5 +1,5 @@
 -- Document 01, Search, in one block. Assumes nothing.
-use Rattle.std.specs.Prelude.{ℕ, ◌-◌, Bool, true, false, leb}
+use Rattle.std.specs.Prelude.{ℕ, ◌-◌, Bool, true, false, leb, Result, Ok, Err}
 use Rattle.numbers.specs.Names.{Units, Map}
 use Rattle.numbers.specs.Pick.{pick}
 use Rattle.runs.specs.declared.Search.{Search}
@@ -7,8 +7,6 @@ use Rattle.runs.specs.declared.Search.TheVariants.{At, Tight, Full}
 use Rattle.runs.specs.Seek.{seek}
 use Rattle.slots.specs.Slots.{slot_of}
 use Rattle.block.specs.declared.Block.{Block}
-use Rattle.block.specs.declared.Looked.{Looked}
-use Rattle.block.specs.declared.Looked.TheVariants.{Found, Missed}
 use Rattle.block.specs.Record.{dirty_flag, is_on, off, with_numbers}
 
 abbrev pub is_dirty : Block → Bool
@@ -24,10 +22,10 @@ abbrev pub tightened : Block → Units → Units → Units → Block
 tightened b first last longest = with_numbers b (off b.flags dirty_flag) b.used first last longest
 
 -- the block's result, by what the search in its window finds
-abbrev pub looked : Block → Search → Looked
-looked b (At i) = Found i
-looked b (Tight first last longest) = Missed (tightened b first last longest)
-looked b Full = Missed b
+abbrev pub looked : Block → Search → Result Units Block
+looked b (At i) = Ok i
+looked b (Tight first last longest) = Err (tightened b first last longest)
+looked b Full = Err b
 
-unfoldable pub look_into : ℕ → Block → Map → Units → Looked
-look_into w b u n = pick (worth_searching b n) (looked b (seek (slot_of w b.slot u) b.start b.end n)) (Missed b)
+unfoldable pub look_into : ℕ → Block → Map → Units → Result Units Block
+look_into w b u n = pick (worth_searching b n) (looked b (seek (slot_of w b.slot u) b.start b.end n)) (Err b)

@@ -4,7 +4,7 @@
 pub mod look;
 pub mod mark;
 
-ghost use Rattle.std.specs.Prelude.{◌≡◌, ◌+◌, ◌-◌, ◌<◌, ◌≤◌, min, max};
+ghost use Rattle.std.specs.Prelude.{◌≡◌, ◌+◌, ◌-◌, ◌<◌, ◌≤◌};
 ghost use Rattle.block.specs.Record.{SpanIn, empty_flag, is_on};
 ghost use Rattle.block.specs.Marking.{moved, marked, released, shrunk, fresh};
 
@@ -36,18 +36,67 @@ impl Block {
     {
         self.flags & Block::FLAG_EMPTY != 0
     }
-}
 
-fn lesser(a: u32, b: u32) -> u32
-    ensures { result ≡ min a b }
-{
-    if a < b { a } else { b }
-}
+    // Updates the record after the units from `from` up to `to` became a span.
+    pub fn marked(self, from: u32, to: u32) -> Block
+        requires { SpanIn self from to × (self.used + (to - from) ≤ self.area) }
+        ensures { result ≡ marked self from to }
+    {
+        let flags = self.flags & !Block::FLAG_EMPTY;
+        let used = self.used + (to - from);
+        if used == self.area {
+            return Block {
+                used,
+                start: self.area,
+                end: 0,
+                largest: 0,
+                flags: flags & !Block::FLAG_DIRTY,
+                ..self
+            };
+        }
+        let start = moved_edge(self.start, from, to);
+        let end = moved_edge(self.end, to, from);
+        Block {
+            used,
+            start,
+            end,
+            flags: flags | Block::FLAG_DIRTY,
+            ..self
+        }
+    }
 
-fn greater(a: u32, b: u32) -> u32
-    ensures { result ≡ max a b }
-{
-    if a < b { b } else { a }
+    // Updates the record after the span from `from` up to `to` was freed.
+    pub fn released(self, from: u32, to: u32) -> Block
+        requires { SpanIn self from to × (to - from ≤ self.used) }
+        ensures { result ≡ released self from to }
+    {
+        let used = self.used - (to - from);
+        if used == 0 {
+            return Block {
+                used,
+                start: 0,
+                end: self.area,
+                largest: self.area,
+                flags: (self.flags | Block::FLAG_EMPTY) & !Block::FLAG_DIRTY,
+                ..self
+            };
+        }
+        self.shrunk(from, to)
+    }
+
+    // Updates the record after the tail from `from` up to `to` of a span was freed.
+    pub fn shrunk(self, from: u32, to: u32) -> Block
+        requires { SpanIn self from to × (to - from ≤ self.used) }
+        ensures { result ≡ shrunk self from to }
+    {
+        Block {
+            used: self.used - (to - from),
+            start: self.start.min(from),
+            end: self.end.max(to),
+            flags: self.flags | Block::FLAG_DIRTY,
+            ..self
+        }
+    }
 }
 
 // Moves a window's edge that equals the span's edge `own` to the span's `other` edge; leaves any other edge.
@@ -56,62 +105,6 @@ fn moved_edge(edge: u32, own: u32, other: u32) -> u32
     ensures { result ≡ moved edge own other }
 {
     if edge == own { other } else { edge }
-}
-
-// Updates the record after the units from `from` up to `to` became a span.
-pub fn marked_record(b: Block, from: u32, to: u32) -> Block
-    requires { SpanIn b from to × (b.used + (to - from) ≤ b.area) }
-    ensures { result ≡ marked b from to }
-{
-    let flags = b.flags & !Block::FLAG_EMPTY;
-    let used = b.used + (to - from);
-    let mut r = b;
-    r.used = used;
-    if used == b.area {
-        r.start = b.area;
-        r.end = 0;
-        r.largest = 0;
-        r.flags = flags & !Block::FLAG_DIRTY;
-        return r;
-    }
-    r.start = moved_edge(b.start, from, to);
-    r.end = moved_edge(b.end, to, from);
-    r.flags = flags | Block::FLAG_DIRTY;
-    r
-}
-
-// Updates the record after the span from `from` up to `to` was freed.
-pub fn released_record(b: Block, from: u32, to: u32) -> Block
-    requires { SpanIn b from to × (to - from ≤ b.used) }
-    ensures { result ≡ released b from to }
-{
-    let used = b.used - (to - from);
-    let mut r = b;
-    r.used = used;
-    if used == 0 {
-        r.start = 0;
-        r.end = b.area;
-        r.largest = b.area;
-        r.flags = (b.flags | Block::FLAG_EMPTY) & !Block::FLAG_DIRTY;
-        return r;
-    }
-    r.start = lesser(b.start, from);
-    r.end = greater(b.end, to);
-    r.flags = b.flags | Block::FLAG_DIRTY;
-    r
-}
-
-// Updates the record after the tail from `from` up to `to` of a span was freed.
-pub fn shrunk_record(b: Block, from: u32, to: u32) -> Block
-    requires { SpanIn b from to × (to - from ≤ b.used) }
-    ensures { result ≡ shrunk b from to }
-{
-    let mut r = b;
-    r.used = b.used - (to - from);
-    r.start = lesser(b.start, from);
-    r.end = greater(b.end, to);
-    r.flags = b.flags | Block::FLAG_DIRTY;
-    r
 }
 
 // Makes the record of a new block that gets a span of `n` units at unit 0, before that span is marked.
@@ -131,11 +124,4 @@ pub fn new_block(base: u64, size: u64, pool: usize, slot: usize, area: u32, n: u
         end: area,
         largest: area - n,
     }
-}
-
-// The result of a search in one block: the lowest place; or the block's new record, its window tightened if the search saw a free unit.
-#[derive(Clone, Copy)]
-pub enum Looked {
-    Found(u32),
-    Missed(Block),
 }

@@ -21,7 +21,7 @@ pub fn mark_allocated_area(
     let slot = b.slot;
     slots::mark(used, slot, w, from as usize, (to - from) as usize);
     slots::mark(stop, slot, w, (to - 1) as usize, 1);
-    crate::marked_record(b, from, to)
+    b.marked(from, to)
 }
 
 // Frees the units from `from` up to `to` of a slot: clears their used bits, and the stop bit of the last one.
@@ -46,7 +46,7 @@ pub fn mark_released_area(
     ensures { painted result used.new stop.new ≡ mark_released w b from to used.old stop.old }
 {
     unmark_area(used, stop, b.slot, w, from, to);
-    crate::released_record(b, from, to)
+    b.released(from, to)
 }
 
 // Frees the tail from `from` up to `to` of a span, and sets the stop bit of the span's new last unit.
@@ -63,5 +63,5 @@ pub fn mark_shrunk_area(
 {
     unmark_area(used, stop, b.slot, w, from, to);
     slots::mark(stop, b.slot, w, (from - 1) as usize, 1);
-    crate::shrunk_record(b, from, to)
+    b.shrunk(from, to)
 }

@@ -19,7 +19,6 @@ use Rattle.sizes.specs.Sizes.{rounded}
 use Rattle.sizes.proofs.Pools.{pool_below}
 use Rattle.state.specs.declared.State.{State}
 use Rattle.state.specs.declared.Span.{Span}
-use Rattle.state.specs.declared.Hit.TheVariants.{At}
 use Rattle.state.specs.declared.Refusal.{Refusal}
 use Rattle.state.specs.declared.Refusal.TheVariants.{NoMapping}
 use Rattle.state.specs.declared.Answer.{Answer}
@@ -29,7 +28,7 @@ use Rattle.shape_facts.proofs.Facts.{unit_g, pool_3}
 use Rattle.shape_facts.proofs.Search.{Left, Place as PlaceIn}
 use Rattle.shape_facts.proofs.Pool.{whole, units_kept}
 use Rattle.machine.specs.Turn.{Turn, refuse, span}
-use Rattle.machine.specs.Alloc.{pool_for, units_for, search_for, new_size, alloc_marked, alloc_made}
+use Rattle.machine.specs.Alloc.{pool_for, units_for, search_for, new_size, alloc_marked, alloc_made, hit_at}
 use Rattle.machine.specs.Release.{release_units, release_turn}
 use Rattle.machine.specs.Machine.{alloc, release, step}
 use Rattle.machine.proofs.Searched.{search_other}
@@ -133,7 +132,7 @@ module _ {s : State} {u t : List ℕ} {l : List Span} (k : Known s u t l) (size 
       }
 
   -- ---- marked in a standing block
-  hit_ends : (j i : ℕ) → (search_for s u bytes).hit ≡ At j i → x ≡ alloc_marked r u t j i n → Ends s u t p x (released x a)
+  hit_ends : (j i : ℕ) → (search_for s u bytes).hit ≡ hit_at j i → x ≡ alloc_marked r u t j i n → Ends s u t p x (released x a)
   hit_ends j i e turned =
       let m = alloc_marked r u t j i n in
       let d = subst (PlaceIn u (length t) p n pos r) e lf.place in

@@ -7,6 +7,7 @@ use mathlib.Core.Logic.{inl, inr, ◌↔◌}
 use mathlib.Core.Path.{◌≡◌, refl, sym, ap, ap₂, subst, ◌∙◌}
 use native.Mathlib.Omega.{arith}
 use lib.ListN.{length}
+use Rattle.std.specs.Prelude.{None}
 use Rattle.numbers.specs.Units.{units_of}
 use Rattle.numbers.proofs.Bools.{not_both}
 use Rattle.block.specs.declared.Block.{Block}
@@ -19,7 +20,6 @@ use Rattle.sizes.proofs.Pools.{pool_below}
 use Rattle.sizes.proofs.Sizes.{rounded_is}
 use Rattle.state.specs.declared.State.{State}
 use Rattle.state.specs.declared.Span.{Span}
-use Rattle.state.specs.declared.Hit.TheVariants.{At, Nowhere}
 use Rattle.state.specs.declared.Refusal.{Refusal}
 use Rattle.state.specs.declared.Refusal.TheVariants.{InvalidArgument, TooLarge, InvalidState, NoMapping, BadShape, Damaged}
 use Rattle.state.specs.declared.Answer.{Answer}
@@ -31,7 +31,7 @@ use Rattle.shape_facts.proofs.Facts.{unit_g, pool_3}
 use Rattle.shape_facts.proofs.Search.{Left, Place as PlaceIn}
 use Rattle.shape_facts.proofs.Pool.{whole, units_kept}
 use Rattle.machine.specs.Turn.{Turn, number, span, unit_of}
-use Rattle.machine.specs.Alloc.{pool_for, units_for, search_for, new_size, alloc_marked, alloc_made}
+use Rattle.machine.specs.Alloc.{pool_for, units_for, search_for, new_size, alloc_marked, alloc_made, hit_at}
 use Rattle.machine.specs.Machine.{alloc, step}
 use Rattle.machine.specs.When.{When}
 use Rattle.machine.proofs.Searched.{search_other, search_slot, search_place, search_newest}
@@ -88,7 +88,7 @@ module _ {s : State} {u t : List ℕ} {l : List Span} (k : Known s u t l) (size 
   w_same : r.w ≡ s.w
   w_same = ap (λ (c : State). c.w) (search_other s u p n)
 
-  taken : (j i : ℕ) → (search_for s u bytes).hit ≡ At j i → Taken s u p n (alloc_marked r u t j i n)
+  taken : (j i : ℕ) → (search_for s u bytes).hit ≡ hit_at j i → Taken s u p n (alloc_marked r u t j i n)
   taken j i e = record {
     block = j;
     unit = i;
@@ -133,7 +133,7 @@ module _ {s : State} {u t : List ℕ} {l : List Span} (k : Known s u t l) (size 
   cannot (inr (inl e)) = inr (inl (sym slot_same ∙ e))
   cannot (inr (inr h)) = inr (inr (omega (arith, words_same, w_same, h)))
 
-  none : (search_for s u bytes).hit ≡ Nowhere → First s u p n Nowhere
+  none : (search_for s u bytes).hit ≡ None → First s u p n None
   none e = subst (FirstFrom s u p n 0) e cb.first
 
 -- ---- the statements
@@ -180,7 +180,7 @@ module _ {s : State} {u t : List ℕ} {l : List Span} (r : Reached s u t l) (siz
   some_units : 0 < units
   some_units = subst (λ (n : ℕ). 0 < n) units_same (seeks_some s u t size bytes seeks)
 
-  not_none : Taken s u pool units after → First s u pool units Nowhere → ⊥
+  not_none : Taken s u pool units after → First s u pool units None → ⊥
   not_none y f =
       let q = y.first in
       f y.block (omega arith) q.1 q.2 y.unit q.3.low (omega (arith, q.3.high, some_units)) q.3.high q.3.free
@@ -200,28 +200,28 @@ module _ {s : State} {u t : List ℕ} {l : List Span} (r : Reached s u t l) (siz
   not_cannot y (inr (inr h)) = omega (arith, y.words, h)
 
   -- refusal 4 exactly if no block of the pool has a place and none can be made
-  pub refused_4_exactly : (after.answer ≡ Refused NoMapping) ↔ (First s u pool units Nowhere × CannotMake s pool bytes)
+  pub refused_4_exactly : (after.answer ≡ Refused NoMapping) ↔ (First s u pool units None × CannotMake s pool bytes)
   refused_4_exactly = go alloc_goes
     where
-      go : Goes s u pool units bytes after → (after.answer ≡ Refused NoMapping) ↔ (First s u pool units Nowhere × CannotMake s pool bytes)
+      go : Goes s u pool units bytes after → (after.answer ≡ Refused NoMapping) ↔ (First s u pool units None × CannotMake s pool bytes)
       go (inl y) = (λ e. absurd (granted-not _ _ y.answer e), λ c. absurd (not_none y c.0))
       go (inr (f, inl y)) = (λ e. absurd (granted-not _ _ y.answer e), λ c. absurd (not_cannot y c.1))
       go (inr (f, inr y)) = (λ e. (f, y.1), λ c. y.0)
 
   -- a block is made exactly if no block of the pool has a place and one can be made
-  pub made_exactly : Made s pool units bytes after ↔ (First s u pool units Nowhere × (CannotMake s pool bytes → ⊥))
+  pub made_exactly : Made s pool units bytes after ↔ (First s u pool units None × (CannotMake s pool bytes → ⊥))
   made_exactly = go alloc_goes
     where
-      go : Goes s u pool units bytes after → Made s pool units bytes after ↔ (First s u pool units Nowhere × (CannotMake s pool bytes → ⊥))
+      go : Goes s u pool units bytes after → Made s pool units bytes after ↔ (First s u pool units None × (CannotMake s pool bytes → ⊥))
       go (inl y) = (λ m. absurd (omega (arith, m.count, y.count)), λ c. absurd (not_none y c.0))
       go (inr (f, inl y)) = (λ m. (f, not_cannot m), λ c. y)
       go (inr (f, inr y)) = (λ m. absurd (granted-not _ _ m.answer y.0), λ c. absurd (c.1 y.1))
 
   -- it goes to a standing block exactly if one of the pool has a place
-  pub taken_exactly : Taken s u pool units after ↔ (First s u pool units Nowhere → ⊥)
+  pub taken_exactly : Taken s u pool units after ↔ (First s u pool units None → ⊥)
   taken_exactly = go alloc_goes
     where
-      go : Goes s u pool units bytes after → Taken s u pool units after ↔ (First s u pool units Nowhere → ⊥)
+      go : Goes s u pool units bytes after → Taken s u pool units after ↔ (First s u pool units None → ⊥)
       go (inl y) = (λ m. not_none m, λ c. y)
       go (inr (f, inl y)) = (λ m. absurd (omega (arith, m.count, y.count)), λ c. absurd (c f))
       go (inr (f, inr y)) = (λ m. absurd (granted-not _ _ m.answer y.0), λ c. absurd (c f))

@@ -6,7 +6,7 @@ use mathlib.Core.Logic.{inl, inr, ⊎_elim, ◌↔◌}
 use mathlib.Core.Path.{◌≡◌, refl, ap, subst}
 use native.Mathlib.Omega.{arith}
 use Rattle.slots.specs.Slots.{slot_of}
-use Rattle.block.specs.declared.Looked.TheVariants.{Found}
+use Rattle.std.specs.Prelude.{Ok}
 use Rattle.block.specs.Search.{look_into}
 use Rattle.block.proofs.Window.{look_found}
 use Rattle.state.specs.declared.State.{State}
@@ -32,7 +32,7 @@ module _ {s : State} {u t : List ℕ} {l : List Span} (r : Reached s u t l) wher
   k = reached_known r
 
   -- 01, Search: in any state reached by calls this equals the lowest fit in the whole block
-  pub found_exactly : (j n i : ℕ) → j < s.count → 0 < n → (look_into s.w (block_at s j) u n ≡ Found i) ↔ LowestPlace s.w u n (block_at s j) i
+  pub found_exactly : (j n i : ℕ) → j < s.count → 0 < n → (look_into s.w (block_at s j) u n ≡ Ok i) ↔ LowestPlace s.w u n (block_at s j) i
   found_exactly j n i h pos =
       let b = block_at s j in
       let f = shaped s u t l k.sound k.sized.blocks in

@@ -3,20 +3,19 @@ use Rattle.std.specs.Prelude.{ℕ, ◌+◌, ◌≤◌, ◌<◌, List, ◌⊎◌,
 use Rattle.numbers.specs.Names.{Bytes, Units, Map}
 use Rattle.numbers.specs.Units.{units_of, bytes_of}
 use Rattle.state.specs.declared.State.{State}
-use Rattle.state.specs.declared.Hit.TheVariants.{At, Nowhere}
 use Rattle.state.specs.declared.Refusal.TheVariants.{NoMapping}
 use Rattle.state.specs.declared.Answer.TheVariants.{Granted, Refused}
 use Rattle.state.specs.Table.{block_at}
 use Rattle.state.specs.Find.{lowest_slot, lowest_place}
 use Rattle.machine.specs.Turn.{Turn, span}
-use Rattle.machine.specs.Alloc.{new_size}
+use Rattle.machine.specs.Alloc.{new_size, hit_at}
 use Rattle.ledger.specs.First.{First}
 
 -- at the lowest start in the first block of the pool, oldest first, that has n free units in a row; no block is made
 pub record Taken (s : State) (u : List ℕ) (p n : ℕ) (x : Turn) : Type 0 where
   pub block : ℕ
   pub unit : ℕ
-  pub first : First s u p n (At block unit)
+  pub first : First s u p n (hit_at block unit)
   pub answer : x.answer ≡ Granted (span ((block_at s block).base + bytes_of unit s.granularity) (bytes_of n s.granularity))
   pub count : x.state.count ≡ s.count
 
@@ -44,4 +43,4 @@ CannotMake s p bytes = (lowest_place s (new_size s p bytes) ≡ None) ⊎ ((lowe
 
 abbrev pub Goes : State → Map → ℕ → Units → Bytes → Turn → Type 0
 Goes s u p n bytes x =
-    Taken s u p n x ⊎ (First s u p n Nowhere × (Made s p n bytes x ⊎ ((x.answer ≡ Refused NoMapping) × CannotMake s p bytes)))
+    Taken s u p n x ⊎ (First s u p n None × (Made s p n bytes x ⊎ ((x.answer ≡ Refused NoMapping) × CannotMake s p bytes)))

@@ -10,7 +10,7 @@ use Rattle.bits.proofs.Filled.{length_filled}
 use Rattle.slots.specs.Slots.{slot_of, put_slot, fill_slot}
 use Rattle.slots.proofs.Laws.{length_slot, slot_own, put_put_slot, put_slot_same}
 use Rattle.block.specs.declared.Block.{Block}
-use Rattle.block.specs.declared.Looked.TheVariants.{Missed}
+use Rattle.std.specs.Prelude.{Err}
 use Rattle.block.specs.Marking.{marked, released, shrunk}
 use Rattle.block.specs.Search.{look_into}
 use Rattle.block.proofs.LiesAs.{numbers_lie, marked_lies, released_lies, missed_lies}
@@ -114,7 +114,7 @@ module _ (g w slots n : ℕ) (bs : List Block) (u t : List ℕ) (st : Stands g w
         ((j, h, (i, m, inside, refl, refl)), homes_strike g n bs l a s.homes))
 
     -- a look that found nothing leaves the block tightened, or as it was
-    pub missed_agrees : (k : ℕ) → 0 < k → (c : Block) → look_into w b u k ≡ Missed c
+    pub missed_agrees : (k : ℕ) → 0 < k → (c : Block) → look_into w b u k ≡ Err c
         → Agrees g w slots n (set bs j c) u t l
     missed_agrees k pos c e =
         subst₂ (λ (x y : List ℕ). Agrees g w slots n (set bs j c) x y l) (put_slot_same w b.slot u) (put_slot_same w b.slot t)

@@ -12,8 +12,7 @@ use Rattle.numbers.specs.Pick.{pick}
 use Rattle.numbers.proofs.Split.{by_eq}
 use Rattle.slots.specs.Slots.{slot_of}
 use Rattle.block.specs.declared.Block.{Block}
-use Rattle.block.specs.declared.Looked.{Looked}
-use Rattle.block.specs.declared.Looked.TheVariants.{Found, Missed}
+use Rattle.std.specs.Prelude.{Result, Ok, Err, Option, Some, None}
 use Rattle.block.specs.Search.{look_into}
 use Rattle.block.specs.Window.{Windowed}
 use Rattle.block.proofs.Window.{look_found, look_missed}
@@ -21,7 +20,6 @@ use Rattle.block.proofs.LiesAs.{missed_lies}
 use Rattle.state.specs.declared.State.{State}
 use Rattle.state.specs.declared.Span.{Span}
 use Rattle.state.specs.declared.Hit.{Hit}
-use Rattle.state.specs.declared.Hit.TheVariants.{At, Nowhere}
 use Rattle.state.specs.declared.Searched.{Searched}
 use Rattle.state.specs.Table.{zero_block, block_at}
 use Rattle.state.specs.Shape.{in_pool}
@@ -45,8 +43,8 @@ module _ (u t : List ℕ) (l : List Span) (p n : ℕ) (pos : 0 < n) where
     pub first : FirstFrom s u p n i x.hit
 
   -- one block more in front
-  first_more : (s : State) (i : ℕ) → ((block_at s i).pool ≡ p → NoPlace s.w u n (block_at s i)) → (h : Hit) → FirstFrom s u p n (suc i) h → FirstFrom s u p n i h
-  first_more s i f (At j k) q = (
+  first_more : (s : State) (i : ℕ) → ((block_at s i).pool ≡ p → NoPlace s.w u n (block_at s i)) → (h : Option Hit) → FirstFrom s u p n (suc i) h → FirstFrom s u p n i h
+  first_more s i f (Some hit) q = (
     omega (arith, q.0),
     q.1,
     q.2,
@@ -55,23 +53,23 @@ module _ (u t : List ℕ) (l : List Span) (p n : ℕ) (pos : 0 < n) where
         (λ z. subst (λ (o : ℕ). NoPlace s.w u n (block_at s o)) (sym z) (f (ap (λ (o : ℕ). (block_at s o).pool) (sym z) ∙ e)))
         (λ ne. q.4 o (omega (arith, ne)) b e),
   )
-  first_more s i f Nowhere q = λ o a b e. by_eq o i
+  first_more s i f None q = λ o a b e. by_eq o i
       (λ z. subst (λ (o : ℕ). NoPlace s.w u n (block_at s o)) (sym z) (f (ap (λ (o : ℕ). (block_at s o).pool) (sym z) ∙ e)))
       (λ ne. q o (omega (arith, ne)) b e)
 
   -- a block before them changed
-  first_put : (s : State) (i : ℕ) (c : Block) (h : Hit) → FirstFrom (put_block s i c) u p n (suc i) h → FirstFrom s u p n (suc i) h
-  first_put s i c (At j k) q =
-      let e : block_at (put_block s i c) j ≡ block_at s j = get_or-set_other s.blocks i j c zero_block (λ z. omega (arith, q.0)) in (
+  first_put : (s : State) (i : ℕ) (c : Block) (h : Option Hit) → FirstFrom (put_block s i c) u p n (suc i) h → FirstFrom s u p n (suc i) h
+  first_put s i c (Some hit) q =
+      let e : block_at (put_block s i c) hit.age ≡ block_at s hit.age = get_or-set_other s.blocks i hit.age c zero_block (λ z. omega (arith, q.0)) in (
         q.0,
         q.1,
         sym (ap (λ (b : Block). b.pool) e) ∙ q.2,
-        subst (λ (b : Block). LowestPlace s.w u n b k) e q.3,
+        subst (λ (b : Block). LowestPlace s.w u n b hit.unit) e q.3,
         λ o a b z.
             let e : block_at (put_block s i c) o ≡ block_at s o = get_or-set_other s.blocks i o c zero_block (λ z. omega arith) in
             subst (NoPlace s.w u n) e (q.4 o a b (ap (λ (b : Block). b.pool) e ∙ z)),
       )
-  first_put s i c Nowhere q = λ o a b z.
+  first_put s i c None q = λ o a b z.
       let e : block_at (put_block s i c) o ≡ block_at s o = get_or-set_other s.blocks i o c zero_block (λ z. omega arith) in
       subst (NoPlace s.w u n) e (q o a b (ap (λ (b : Block). b.pool) e ∙ z))
 
@@ -87,7 +85,7 @@ module _ (u t : List ℕ) (l : List Span) (p n : ℕ) (pos : 0 < n) where
         sound_windowed b (slot_of s.w b.slot u) (slot_of s.w b.slot t) (view_of s.granularity b l) (r.agrees.each i h)
         (room_u s.granularity s.w s.slots s.count s.blocks u t r.stands l r.agrees i h) (r.ends i h)
 
-    ready_put : (c : Block) → look_into s.w b u n ≡ Missed c → c.end ≤ c.area → Ready (put_block s i c)
+    ready_put : (c : Block) → look_into s.w b u n ≡ Err c → c.end ≤ c.area → Ready (put_block s i c)
     ready_put c e end = record {
       stands = set_stands s.granularity s.w s.slots s.count s.blocks (length u) (length t) r.stands i h c (missed_lies s.w b u n c e);
       agrees = missed_agrees s.granularity s.w s.slots s.count s.blocks u t r.stands l r.agrees i h (r.ends i h) n pos c e;
@@ -97,12 +95,12 @@ module _ (u t : List ℕ) (l : List Span) (p n : ℕ) (pos : 0 < n) where
           (λ ne. subst (λ (x : Block). x.end ≤ x.area) (sym (get_or-set_other s.blocks i j c zero_block ne)) (r.ends j q));
     }
 
-    after_combed : (rest : State → Searched) → Rest rest (suc i) s.count → b.pool ≡ p → (x : Looked) → look_into s.w b u n ≡ x → Combed s i (after s i rest x)
-    after_combed rest ih e (Found k) z = record {
+    after_combed : (rest : State → Searched) → Rest rest (suc i) s.count → b.pool ≡ p → (x : Result ℕ Block) → look_into s.w b u n ≡ x → Combed s i (after s i rest x)
+    after_combed rest ih e (Ok k) z = record {
       ready = r;
       first = (omega arith, h, e, (look_found s.w b u n windowed pos k).0 z, λ o a c f. absurd (omega arith));
     }
-    after_combed rest ih e (Missed c) z =
+    after_combed rest ih e (Err c) z =
         let m = look_missed s.w b u n windowed pos c z in
         let x = ih (put_block s i c) refl (ready_put c z m.1.within) in
         record {

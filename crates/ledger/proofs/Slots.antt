@@ -11,7 +11,7 @@ use Rattle.runs.specs.Window.{FreeAt}
 use Rattle.slots.specs.Slots.{slot_of, fill_slot}
 use Rattle.slots.proofs.Laws.{length_slot, length_put_slot, slot_own}
 use Rattle.block.specs.declared.Block.{Block}
-use Rattle.block.specs.declared.Looked.TheVariants.{Missed}
+use Rattle.std.specs.Prelude.{Err}
 use Rattle.block.specs.Record.{Placed}
 use Rattle.block.specs.Marking.{Painted, marked, shrunk, mark_allocated, mark_released, mark_shrunk, emptied, fresh}
 use Rattle.block.specs.Search.{look_into}
@@ -71,7 +71,7 @@ module _ (w : ℕ) (b : Block) (u t : List ℕ) (l : List Piece) (p : Placed b w
       (shrink_sound b (slot_of w b.slot u) (slot_of w b.slot t) l s room stop_room p.end i (i + n) e (omega arith) less m))
 
   -- a search for n units misses, and the record becomes c
-  pub miss_slot : (n : ℕ) → 0 < n → (c : Block) → look_into w b u n ≡ Missed c → SoundBlock c (slot_of w b.slot u) (slot_of w b.slot t) l
+  pub miss_slot : (n : ℕ) → 0 < n → (c : Block) → look_into w b u n ≡ Err c → SoundBlock c (slot_of w b.slot u) (slot_of w b.slot t) l
   miss_slot n pos c e = tight_sound w b u (slot_of w b.slot t) l n s room p.end pos c e
 
 -- ---- in a slot that was cleared

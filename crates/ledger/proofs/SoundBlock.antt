@@ -11,7 +11,7 @@ use Rattle.bits.proofs.Filled.{filled_has, bit_zeros}
 use Rattle.bits.proofs.Count.{ones_all}
 use Rattle.slots.specs.Slots.{slot_of}
 use Rattle.block.specs.declared.Block.{Block}
-use Rattle.block.specs.declared.Looked.TheVariants.{Missed}
+use Rattle.std.specs.Prelude.{Err}
 use Rattle.block.specs.Marking.{marked, emptied, released, shrunk, fresh}
 use Rattle.block.specs.Search.{look_into}
 use Rattle.block.specs.Window.{Windowed}
@@ -118,7 +118,7 @@ fresh_sound base size pool slot area n w pos fits h =
 -- ---- a search that misses
 pub tight_sound : (w : ℕ) (b : Block) (ws t : List ℕ) (l : List Piece) (n : ℕ) → SoundBlock b (slot_of w b.slot ws) t l
     → b.area ≤ 32 * length (slot_of w b.slot ws) → b.end ≤ b.area → 0 < n
-    → (c : Block) → look_into w b ws n ≡ Missed c → SoundBlock c (slot_of w b.slot ws) t l
+    → (c : Block) → look_into w b ws n ≡ Err c → SoundBlock c (slot_of w b.slot ws) t l
 tight_sound w b ws t l n s room within pos c e =
     let u = slot_of w b.slot ws in
     windowed_as c b.area u t l (missed_lies w b ws n c e).area (look_missed w b ws n (sound_windowed b u t l s room within) pos c e).1 s.paints

@@ -14,7 +14,6 @@ use Rattle.slots.specs.Slots.{slot_of}
 use Rattle.sizes.proofs.Pools.{pool_below}
 use Rattle.state.specs.declared.State.{State}
 use Rattle.state.specs.declared.Span.{Span}
-use Rattle.state.specs.declared.Hit.TheVariants.{At}
 use Rattle.state.specs.declared.Refusal.{Refusal}
 use Rattle.state.specs.declared.Refusal.TheVariants.{InvalidArgument, NoMapping, BadShape}
 use Rattle.state.specs.declared.Answer.TheVariants.{Shown, Shrunk, Reset, Refused}
@@ -26,7 +25,7 @@ use Rattle.shape_facts.proofs.Pool.{whole, units_kept}
 use Rattle.machine.specs.Turn.{turn, refuse, span, unit_of}
 use Rattle.state.specs.declared.Asked.{Asked}
 use Rattle.machine.specs.Create.{slots_of, granted}
-use Rattle.machine.specs.Alloc.{pool_for, units_for, search_for, new_size, alloc_turn, alloc_marked, alloc_made}
+use Rattle.machine.specs.Alloc.{pool_for, units_for, search_for, new_size, alloc_turn, alloc_marked, alloc_made, hit_at}
 use Rattle.machine.specs.Span.{query_turn}
 use Rattle.machine.specs.Release.{release_turn}
 use Rattle.machine.specs.Shrink.{shrink_turn}
@@ -122,7 +121,7 @@ module _ (s : State) (u t : List ℕ) (l : List Span) (o : Sound s u t l) (z : S
     live_r : r.live ≡ length l
     live_r = left.live ∙ o.live
 
-    hit_right : (j i : ℕ) → (search_for s u bytes).hit ≡ At j i → Right l (alloc_marked r u t j i n)
+    hit_right : (j i : ℕ) → (search_for s u bytes).hit ≡ hit_at j i → Right l (alloc_marked r u t j i n)
     hit_right j i e =
         let q = subst (Place u (length t) p n pos r) e left.place in
         let d = subst (FirstFrom s u p n 0) e combed.first in

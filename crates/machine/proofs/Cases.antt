@@ -9,6 +9,7 @@ use native.Mathlib.Omega.{arith}
 use borrow.Author.Tests.{leb-true, leb-false, ltb-true, ltb-false, eqb-true, eqb-false, not-true, not-false}
 use lib.Dec.{leb, ltb, eqb}
 use lib.ListN.{length}
+use Rattle.std.specs.Prelude.{Option, Some, None}
 use Rattle.numbers.specs.Pick.{pick}
 use Rattle.numbers.specs.Align.{align_up}
 use Rattle.numbers.specs.Units.{units_of, bytes_of}
@@ -22,7 +23,6 @@ use Rattle.state.specs.declared.State.{State}
 use Rattle.state.specs.declared.NotHeld.TheVariants.{NoSpan, NoStop as noStop}
 use Rattle.state.specs.Held.{Held, range}
 use Rattle.state.specs.declared.Hit.{Hit}
-use Rattle.state.specs.declared.Hit.TheVariants.{At, Nowhere}
 use Rattle.state.specs.declared.Refusal.{Refusal}
 use Rattle.state.specs.declared.Refusal.TheVariants.{InvalidArgument, TooLarge, InvalidState, NoMapping, BadShape, Damaged}
 use Rattle.state.specs.declared.Answer.{Answer}
@@ -35,7 +35,7 @@ use Rattle.state.proofs.Find.{Least, least_of}
 use Rattle.machine.specs.Turn.{Turn, turn, number, refuse, span, put_pool, with_live, with_counts, unit_of, clear_slot}
 use Rattle.state.specs.declared.Asked.{Asked}
 use Rattle.machine.specs.Create.{slots_of, grantable, granted, create_turn}
-use Rattle.machine.specs.Alloc.{pool_for, units_for, search_for, new_size, alloc_marked, alloc_made, alloc_placed, alloc_searched, alloc_rounded, alloc_turn}
+use Rattle.machine.specs.Alloc.{pool_for, units_for, search_for, new_size, alloc_marked, alloc_made, alloc_placed, alloc_searched, alloc_rounded, alloc_turn, hit_at}
 use Rattle.machine.specs.Span.{held_in, query_held, query_found, query_turn}
 use Rattle.machine.specs.Release.{less_used, settle, release_units, release_held, release_found, release_turn}
 use Rattle.machine.specs.Shrink.{shrink_tail, shrink_units, shrink_held, shrink_found, shrink_turn}
@@ -120,7 +120,7 @@ module _ (s : State) (u t : List ℕ) (size bytes : ℕ) (k : Seeks s u t size b
       let o = search_other s u p n in
       inr (inr (omega (arith, l, ap (λ (x : State). x.w) o, ap₂ (λ (x : State) (b : ℕ). words x b) o size_same)))
 
-  pub short_when : (search_for s u bytes).hit ≡ Nowhere → Short (search_for s u bytes).state p bytes → When s u t NoMapping (alloc size)
+  pub short_when : (search_for s u bytes).hit ≡ None → Short (search_for s u bytes).state p bytes → When s u t NoMapping (alloc size)
   short_when miss q =
       let a = rounded_is size s.granularity bytes k.is in
       let none = subst (Hits u p n s 0 s.count) miss (search_hits u p n s) in
@@ -275,10 +275,10 @@ module _ (P : Turn → Type 0) (s : State) (u t : List ℕ) where
 
   -- ---- alloc: refused before the search, or by 4 after it
   module _ (size : ℕ) (refused : (why : Refusal) → (number why ≡ 4 → ⊥) → When s u t why (alloc size) → P (refuse why s u t))
-      (full : (bytes : ℕ) → Seeks s u t size bytes → (search_for s u bytes).hit ≡ Nowhere → Short (search_for s u bytes).state (pool_for s bytes) bytes
+      (full : (bytes : ℕ) → Seeks s u t size bytes → (search_for s u bytes).hit ≡ None → Short (search_for s u bytes).state (pool_for s bytes) bytes
       → P (refuse NoMapping (search_for s u bytes).state u t))
-      (hit : (bytes j i : ℕ) → Seeks s u t size bytes → (search_for s u bytes).hit ≡ At j i → P (alloc_marked (search_for s u bytes).state u t j i (units_for s bytes)))
-      (make : (bytes at slot : ℕ) → Seeks s u t size bytes → (search_for s u bytes).hit ≡ Nowhere → Places (search_for s u bytes).state (pool_for s bytes) bytes at slot
+      (hit : (bytes j i : ℕ) → Seeks s u t size bytes → (search_for s u bytes).hit ≡ hit_at j i → P (alloc_marked (search_for s u bytes).state u t j i (units_for s bytes)))
+      (make : (bytes at slot : ℕ) → Seeks s u t size bytes → (search_for s u bytes).hit ≡ None → Places (search_for s u bytes).state (pool_for s bytes) bytes at slot
       → P (alloc_made (search_for s u bytes).state u t (pool_for s bytes) (units_for s bytes) (new_size (search_for s u bytes).state (pool_for s bytes) bytes) at slot)) where
     -- the rounded size, the state that the search leaves, the block to be made and its words
     abbrev z : ℕ
@@ -293,7 +293,7 @@ module _ (P : Turn → Type 0) (s : State) (u t : List ℕ) where
     abbrev taken : ℕ
     taken = units_of (units_of b (pool_at r (pool_for s z)).granularity) 32
 
-    place : Seeks s u t size z → (search_for s u z).hit ≡ Nowhere → (x : Option ℕ) (f : Option ℕ) → lowest_place r b ≡ x → lowest_slot r ≡ f
+    place : Seeks s u t size z → (search_for s u z).hit ≡ None → (x : Option ℕ) (f : Option ℕ) → lowest_place r b ≡ x → lowest_slot r ≡ f
         → P (alloc_placed r u t (pool_for s z) (units_for s z) b x f)
     place k miss (Some at) (Some slot) ex ef =
         picked P (leb taken r.w) (alloc_made r u t (pool_for s z) (units_for s z) b at slot) (refuse NoMapping r u t)
@@ -301,9 +301,9 @@ module _ (P : Turn → Type 0) (s : State) (u t : List ℕ) where
     place k miss (Some at) None ex ef = full z k miss (inr (inl ef))
     place k miss None f ex ef = full z k miss (inl ex)
 
-    searched : Seeks s u t size z → (h : Hit) → (search_for s u z).hit ≡ h → P (alloc_searched r u t (pool_for s z) (units_for s z) z h)
-    searched k (At j i) e = hit z j i k e
-    searched k Nowhere e = place k e _ _ refl refl
+    searched : Seeks s u t size z → (h : Option Hit) → (search_for s u z).hit ≡ h → P (alloc_searched r u t (pool_for s z) (units_for s z) z h)
+    searched k (Some h) e = hit z h.age h.unit k e
+    searched k None e = place k e _ _ refl refl
 
     known : Good s u t → (none : Bool) → eqb z 0 ≡ none → (much : Bool) → ltb 2147483647 z ≡ much
         → rounded size s.granularity ≡ pick none (Err size_error.InvalidArgument) (pick much (Err size_error.TooLarge) (Ok z))

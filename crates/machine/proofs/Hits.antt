@@ -11,12 +11,10 @@ use Rattle.numbers.specs.Pick.{pick}
 use Rattle.numbers.proofs.Bools.{not_both}
 use Rattle.numbers.proofs.Split.{by_eq}
 use Rattle.block.specs.declared.Block.{Block}
-use Rattle.block.specs.declared.Looked.{Looked}
-use Rattle.block.specs.declared.Looked.TheVariants.{Found, Missed}
+use Rattle.std.specs.Prelude.{Result, Ok, Err, Option, Some, None}
 use Rattle.block.specs.Search.{look_into}
 use Rattle.state.specs.declared.State.{State}
 use Rattle.state.specs.declared.Hit.{Hit}
-use Rattle.state.specs.declared.Hit.TheVariants.{At, Nowhere}
 use Rattle.state.specs.declared.Searched.{Searched}
 use Rattle.state.specs.Table.{zero_block, block_at}
 use Rattle.state.specs.Shape.{in_pool}
@@ -26,35 +24,35 @@ use Rattle.machine.specs.Alloc.{after, search_from, search_pool}
 -- ---- which block is found
 module _ (u : List ℕ) (p n : ℕ) where
   -- of the blocks from age i up to e
-  abbrev pub Hits : State → ℕ → ℕ → Hit → Type 0
-  Hits s i e (At j unit) = (i ≤ j) × (j < e) × (in_pool s p j ≡ true) × (look_into s.w (block_at s j) u n ≡ Found unit)
-  Hits s i e Nowhere = (j unit : ℕ) → i ≤ j → j < e → in_pool s p j ≡ true → look_into s.w (block_at s j) u n ≡ Found unit → ⊥
+  abbrev pub Hits : State → ℕ → ℕ → Option Hit → Type 0
+  Hits s i e (Some hit) = (i ≤ hit.age) × (hit.age < e) × (in_pool s p hit.age ≡ true) × (look_into s.w (block_at s hit.age) u n ≡ Ok hit.unit)
+  Hits s i e None = (j unit : ℕ) → i ≤ j → j < e → in_pool s p j ≡ true → look_into s.w (block_at s j) u n ≡ Ok unit → ⊥
 
   -- what is known of the later blocks is known of all if block i is not found
   later : (s r : State) (i e : ℕ) → r.w ≡ s.w → ((j : ℕ) → i < j → block_at r j ≡ block_at s j)
-      → ((unit : ℕ) → in_pool s p i ≡ true → look_into s.w (block_at s i) u n ≡ Found unit → ⊥)
-      → (h : Hit) → Hits r (suc i) e h → Hits s i e h
-  later s r i e w same none (At j unit) q = (
+      → ((unit : ℕ) → in_pool s p i ≡ true → look_into s.w (block_at s i) u n ≡ Ok unit → ⊥)
+      → (h : Option Hit) → Hits r (suc i) e h → Hits s i e h
+  later s r i e w same none (Some hit) q = (
     omega (arith, q.0),
     q.1,
-    subst (λ (b : Block). eqb b.pool p ≡ true) (same j q.0) q.2,
-    ap₂ (λ (x : ℕ) (b : Block). look_into x b u n) (sym w) (sym (same j q.0)) ∙ q.3,
+    subst (λ (b : Block). eqb b.pool p ≡ true) (same hit.age q.0) q.2,
+    ap₂ (λ (x : ℕ) (b : Block). look_into x b u n) (sym w) (sym (same hit.age q.0)) ∙ q.3,
   )
-  later s r i e w same none Nowhere q = λ j unit l m x y.
+  later s r i e w same none None q = λ j unit l m x y.
       by_eq j i
-      (λ z. none unit (subst (λ (k : ℕ). in_pool s p k ≡ true) z x) (subst (λ (k : ℕ). look_into s.w (block_at s k) u n ≡ Found unit) z y))
+      (λ z. none unit (subst (λ (k : ℕ). in_pool s p k ≡ true) z x) (subst (λ (k : ℕ). look_into s.w (block_at s k) u n ≡ Ok unit) z y))
       (λ ne.
       let h : i < j = omega (arith, ne) in
       q j unit h m (subst (λ (b : Block). eqb b.pool p ≡ true) (sym (same j h)) x)
       (ap₂ (λ (x : ℕ) (b : Block). look_into x b u n) w (same j h) ∙ y))
 
-  differ : (b : Block) (unit : ℕ) → Missed b ≡ Found unit → ⊥
+  differ : (b : Block) (unit : ℕ) → Err b ≡ Ok unit → ⊥
   differ b unit e = let z : ◌≡◌ {A = ℕ} 0 1 = cc in omega arith
 
   after_hits : (s : State) (i e : ℕ) (rest : State → Searched) → i < e → in_pool s p i ≡ true
-      → ((r : State) → Hits r (suc i) e (rest r).hit) → (l : Looked) → look_into s.w (block_at s i) u n ≡ l → Hits s i e (after s i rest l).hit
-  after_hits s i e rest h x ih (Found unit) q = (omega arith, h, x, q)
-  after_hits s i e rest h x ih (Missed b) q =
+      → ((r : State) → Hits r (suc i) e (rest r).hit) → (l : Result ℕ Block) → look_into s.w (block_at s i) u n ≡ l → Hits s i e (after s i rest l).hit
+  after_hits s i e rest h x ih (Ok unit) q = (omega arith, h, x, q)
+  after_hits s i e rest h x ih (Err b) q =
       later s (put_block s i b) i e refl (λ j l. get_or-set_other s.blocks i j b zero_block (λ z. omega arith))
       (λ unit y z. differ b unit (sym q ∙ z)) (rest (put_block s i b)).hit (ih (put_block s i b))
 

@@ -12,8 +12,7 @@ use Rattle.numbers.specs.Pick.{pick}
 use Rattle.numbers.proofs.Bools.{picked}
 use Rattle.numbers.proofs.Split.{by_eq, by_le}
 use Rattle.block.specs.declared.Block.{Block}
-use Rattle.block.specs.declared.Looked.{Looked}
-use Rattle.block.specs.declared.Looked.TheVariants.{Found as found, Missed as missed}
+use Rattle.std.specs.Prelude.{Result, Ok, Err}
 use Rattle.block.specs.Search.{look_into}
 use Rattle.block.proofs.LiesAs.{LiesAs, lies_refl, lies_trans, missed_lies}
 use Rattle.state.specs.declared.State.{State}
@@ -41,10 +40,10 @@ put_lies s j b l i =
     (λ h. lies_refl (rw (set_out s.blocks j b (omega arith))))))
     (λ ne. lies_refl (get_or-set_other s.blocks j i b zero_block ne))
 
-after_left : (u : List ℕ) (n : ℕ) (s : State) (i : ℕ) (rest : State → Searched) → ((r : State) → LeftBlocks r (rest r).state) → (l : Looked)
+after_left : (u : List ℕ) (n : ℕ) (s : State) (i : ℕ) (rest : State → Searched) → ((r : State) → LeftBlocks r (rest r).state) → (l : Result ℕ Block)
     → look_into s.w (block_at s i) u n ≡ l → LeftBlocks s (after s i rest l).state
-after_left u n s i rest ih (found unit) e = (refl, λ j. lies_refl refl)
-after_left u n s i rest ih (missed b) e =
+after_left u n s i rest ih (Ok unit) e = (refl, λ j. lies_refl refl)
+after_left u n s i rest ih (Err b) e =
     let q = ih (put_block s i b) in
     (q.0, λ j. lies_trans (q.1 j) (put_lies s i b (missed_lies s.w (block_at s i) u n b e) j))
 

@@ -3,8 +3,7 @@ use Rattle.std.specs.Prelude.{ℕ, zero, suc, ◌+◌, ◌-◌, leb, length, Res
 use Rattle.numbers.specs.Names.{Address, Bytes, Units, Age, Map}
 use Rattle.numbers.specs.Pick.{pick}
 use Rattle.numbers.specs.Units.{units_of, bytes_of}
-use Rattle.block.specs.declared.Looked.{Looked}
-use Rattle.block.specs.declared.Looked.TheVariants.{Found as found, Missed as missed}
+use Rattle.block.specs.declared.Block.{Block}
 use Rattle.block.specs.Marking.{mark_allocated, fresh}
 use Rattle.block.specs.Search.{look_into}
 use Rattle.sizes.specs.declared.SizeError.{SizeError}
@@ -12,7 +11,6 @@ use Rattle.sizes.specs.Pools.{pool_of}
 use Rattle.sizes.specs.Sizes.{rounded, ideal_size}
 use Rattle.state.specs.declared.State.{State}
 use Rattle.state.specs.declared.Hit.{Hit}
-use Rattle.state.specs.declared.Hit.TheVariants.{At, Nowhere}
 use Rattle.state.specs.declared.Searched.{Searched}
 use Rattle.state.specs.declared.Refusal.TheVariants.{NoMapping, BadShape}
 use Rattle.state.specs.declared.Answer.TheVariants.{Granted}
@@ -25,18 +23,22 @@ use Rattle.machine.specs.Turn.{Turn, turn, refuse, span, put_block, put_pool, wi
 
 -- ---- Search: blocks of the pool, oldest first
 
+-- a place found: a block, and a unit in it
+abbrev pub hit_at : Age → Units → Option Hit
+hit_at j i = Some record { age = j; unit = i }
+
 -- a search's result: the record that it left, and the place that it found
-abbrev pub searched : Hit → State → Searched
+abbrev pub searched : Option Hit → State → Searched
 searched hit s = record { hit = hit; state = s }
 
 -- after a search in block i: it found a place, or the search of the rest goes on with the block's new record
-abbrev pub after : State → Age → (State → Searched) → Looked → Searched
-after s i rest (found unit) = searched (At i unit) s
-after s i rest (missed b) = rest (put_block s i b)
+abbrev pub after : State → Age → (State → Searched) → Result Units Block → Searched
+after s i rest (Ok unit) = searched (hit_at i unit) s
+after s i rest (Err b) = rest (put_block s i b)
 
 -- the search of the k blocks from age i on
 unfoldable pub search_from : Map → ℕ → Units → Age → ℕ → State → Searched
-search_from u p n i zero s = searched Nowhere s
+search_from u p n i zero s = searched None s
 search_from u p n i (suc k) s =
     pick (in_pool s p i) (after s i (search_from u p n (suc i) k) (look_into s.w (block_at s i) u n)) (search_from u p n (suc i) k s)
 
@@ -87,9 +89,9 @@ abbrev pub alloc_new : State → Map → Map → ℕ → Units → Bytes → Tur
 alloc_new s u t p n size = alloc_placed s u t p n size (lowest_place s size) (lowest_slot s)
 
 -- ---- the call
-abbrev pub alloc_searched : State → Map → Map → ℕ → Units → Bytes → Hit → Turn
-alloc_searched s u t p n size (At j i) = alloc_marked s u t j i n
-alloc_searched s u t p n size Nowhere = alloc_new s u t p n (new_size s p size)
+abbrev pub alloc_searched : State → Map → Map → ℕ → Units → Bytes → Option Hit → Turn
+alloc_searched s u t p n size (Some hit) = alloc_marked s u t hit.age hit.unit n
+alloc_searched s u t p n size None = alloc_new s u t p n (new_size s p size)
 
 -- the pool is chosen by the rounded size
 abbrev pub alloc_pool : State → Map → Map → Bytes → ℕ → Turn

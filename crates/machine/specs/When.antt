@@ -1,12 +1,11 @@
 -- Document 01, Refusal numbers: exactly when each is given, by the state before the call. Assumes nothing.
-use Rattle.std.specs.Prelude.{ℕ, ◌+◌, ◌-◌, ◌/◌, ◌%◌, ◌≤◌, ◌<◌, true, false, ◌⊎◌, ◌≡◌, length}
+use Rattle.std.specs.Prelude.{ℕ, ◌+◌, ◌-◌, ◌/◌, ◌%◌, ◌≤◌, ◌<◌, true, false, ◌⊎◌, ◌≡◌, length, Ok}
 use Rattle.numbers.specs.Names.{Address, Bytes, Units, Age, Map}
 use Rattle.numbers.specs.Align.{align_up}
 use Rattle.numbers.specs.Units.{units_of}
 use Rattle.sizes.specs.Limits.{page, max_size}
 use Rattle.bits.specs.Bits.{bit}
 use Rattle.slots.specs.Slots.{slot_of}
-use Rattle.block.specs.declared.Looked.TheVariants.{Found}
 use Rattle.block.specs.Search.{look_into}
 use Rattle.state.specs.declared.State.{State}
 use Rattle.state.specs.declared.Answer.{Answer}
@@ -68,7 +67,7 @@ module _ (s : State) (u t : Map) where
   -- ---- allocation of the rounded size z
   -- no block of the pool that is looked into has a place
   abbrev pub NoneFound : Bytes → Type 0
-  NoneFound z = (j i : ℕ) → j < s.count → in_pool s (pool_for s z) j ≡ true → look_into s.w (block_at s j) u (units_for s z) ≡ Found i → ⊥
+  NoneFound z = (j i : ℕ) → j < s.count → in_pool s (pool_for s z) j ≡ true → look_into s.w (block_at s j) u (units_for s z) ≡ Ok i → ⊥
 
   -- the size of the block to be made
   abbrev pub size_for : Bytes → Bytes

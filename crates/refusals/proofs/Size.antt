@@ -8,12 +8,12 @@ use mathlib.Core.Path.{◌≡◌, refl, sym, ap, ap₂, ◌∙◌}
 use native.Mathlib.Omega.{arith}
 use borrow.Author.Tests.{eq-eqb, ne_eqb, lt-ltb, le-ltb, lt-leb}
 use lib.Dec.{leb}
+use Rattle.std.specs.Prelude.{Option, Some, None}
 use Rattle.numbers.specs.Align.{align_up}
 use Rattle.numbers.specs.Units.{units_of}
 use Rattle.sizes.specs.Sizes.{rounded, ideal_size}
 use Rattle.state.specs.declared.State.{State}
 use Rattle.state.specs.declared.Hit.{Hit}
-use Rattle.state.specs.declared.Hit.TheVariants.{At, Nowhere}
 use Rattle.state.specs.declared.Refusal.{Refusal}
 use Rattle.state.specs.declared.Refusal.TheVariants.{InvalidArgument, TooLarge, InvalidState, NoMapping, BadShape, Damaged}
 use Rattle.state.specs.declared.Answer.TheVariants.{Refused}
@@ -47,9 +47,9 @@ module _ (s : State) (u t : List ℕ) where
     abbrev b : ℕ
     b = new_size r p z
 
-    hit_none : NoneFound s u t z → (h : Hit) → Hits u p n s 0 s.count h → h ≡ Nowhere
-    hit_none none (At j i) q = absurd (none j i q.1 q.2 q.3)
-    hit_none none Nowhere q = refl
+    hit_none : NoneFound s u t z → (h : Option Hit) → Hits u p n s 0 s.count h → h ≡ None
+    hit_none none (Some hit) q = absurd (none hit.age hit.unit q.1 q.2 q.3)
+    hit_none none None q = refl
 
     other : OtherBlocks s r
     other = search_other s u p n
@@ -81,7 +81,7 @@ module _ (s : State) (u t : List ℕ) where
 
     searched_refused : NoneFound s u t z → NoRoom s u t (size_for s u t z) ⊎ (NoSlot s u t ⊎ PastSlot s u t z) → (alloc_searched r u t p n z (search_for s u z).hit).answer ≡ Refused NoMapping
     searched_refused none q =
-        ap (λ (h : Hit). (alloc_searched r u t p n z h).answer) (hit_none none (search_for s u z).hit (search_hits u p n s)) ∙ placed_refused q
+        ap (λ (h : Option Hit). (alloc_searched r u t p n z h).answer) (hit_none none (search_for s u z).hit (search_hits u p n s)) ∙ placed_refused q
 
   pub alloc_when : (size : ℕ) (why : Refusal) → When s u t why (alloc size) → (alloc_turn s u t size).answer ≡ Refused why
   unfolding alloc_turn rounded

@@ -17,21 +17,19 @@ use Rattle.runs.specs.Seek.{seek}
 use Rattle.runs.proofs.Seek.{seek_is}
 use Rattle.slots.specs.Slots.{slot_of}
 use Rattle.block.specs.declared.Block.{Block}
-use Rattle.block.specs.declared.Looked.{Looked}
-use Rattle.block.specs.declared.Looked.TheVariants.{Found, Missed}
+use Rattle.std.specs.Prelude.{Result, Ok, Err, Option, Some, None}
 use Rattle.block.specs.Search.{is_dirty, worth_searching, looked, tightened, look_into}
 use Rattle.block.proofs.Flags.{empty_kept, off-le}
 use Rattle.block.proofs.LiesAs.{numbers_lie}
 use Rattle.state.specs.declared.State.{State}
 use Rattle.state.specs.declared.Hit.{Hit}
-use Rattle.state.specs.declared.Hit.TheVariants.{At, Nowhere}
 use Rattle.state.specs.declared.Searched.{Searched}
 use Rattle.state.specs.Table.{block_at}
 use Rattle.state.specs.Shape.{in_pool}
 use Rattle.shape.specs.Facts.{ShapedBlockIn}
 use Rattle.shape.specs.Shaped.{Shaped}
 use Rattle.machine.specs.Turn.{put_block}
-use Rattle.machine.specs.Alloc.{searched, after, search_from, search_pool}
+use Rattle.machine.specs.Alloc.{searched, after, search_from, search_pool, hit_at}
 use Rattle.shape_facts.proofs.Keep.{Same, same_refl, same_trans, put_here, put_there, put-length, put_shaped}
 
 -- ---- a look into one block
@@ -41,9 +39,9 @@ pub record Fits (b : Block) (n i : ℕ) : Type 0 where
   pub room : b.used + n ≤ b.area
 
 -- what an answer says of the block that is left
-abbrev pub Told : Block → ℕ → Looked → Type 0
-Told b n (Found i) = Fits b n i
-Told b n (Missed c) = (c ≡ b) ⊎ ((f : ℕ) × (l : ℕ) × (m : ℕ) × (c ≡ tightened b f l m) × (f ≤ b.area) × (l ≤ b.area) × (m ≤ b.area))
+abbrev pub Told : Block → ℕ → Result ℕ Block → Type 0
+Told b n (Ok i) = Fits b n i
+Told b n (Err c) = (c ≡ b) ⊎ ((f : ℕ) × (l : ℕ) × (m : ℕ) × (c ≡ tightened b f l m) × (f ≤ b.area) × (l ≤ b.area) × (m ≤ b.area))
 
 module _ (b : Block) (u : List ℕ) (n : ℕ) (pos : 0 < n) (within : b.end ≤ b.area) (counted : b.used ≤ b.area) where
   looks_room : worth_searching b n ≡ true → b.used + n ≤ b.area
@@ -61,7 +59,7 @@ module _ (b : Block) (u : List ℕ) (n : ℕ) (pos : 0 < n) (within : b.end ≤ 
       inr (f, l, m, refl, omega (arith, t.some, t.high), omega (arith, t.high), omega (arith, t.place.2))
   told_sought e Full q = inl refl
 
-  told_pick : (c : Bool) → worth_searching b n ≡ c → (r : Search) → Sought u b.start b.end n r → Told b n (pick c (looked b r) (Missed b))
+  told_pick : (c : Bool) → worth_searching b n ≡ c → (r : Search) → Sought u b.start b.end n r → Told b n (pick c (looked b r) (Err b))
   told_pick true e r q = told_sought e r q
   told_pick false e r q = inl refl
 
@@ -96,9 +94,10 @@ tight_sound s b f l m q x y z = record {
 -- ---- the blocks in turn
 module _ (u : List ℕ) (t p n : ℕ) (pos : 0 < n) where
   -- the place that was found: a block of the pool as it stood, and a place in it
-  abbrev pub Place : State → Hit → Type 0
-  Place r (At j i) = (j < r.count) × ((block_at r j).pool ≡ p) × Fits (block_at r j) n i × (look_into r.w (block_at r j) u n ≡ Found i)
-  Place r Nowhere = Unit {0}
+  abbrev pub Place : State → Option Hit → Type 0
+  Place r (Some hit) =
+      (hit.age < r.count) × ((block_at r hit.age).pool ≡ p) × Fits (block_at r hit.age) n hit.unit × (look_into r.w (block_at r hit.age) u n ≡ Ok hit.unit)
+  Place r None = Unit {0}
 
   pub record Left (s : State) (r : Searched) : Type 0 where
     pub shaped : Shaped r.state (length u) t
@@ -123,7 +122,7 @@ module _ (u : List ℕ) (t p n : ℕ) (pos : 0 < n) where
     place = q.place;
   }
 
-  left_here : (s : State) → Shaped s (length u) t → length s.blocks ≡ 64 → (h : Hit) → Place s h → Left s (searched h s)
+  left_here : (s : State) → Shaped s (length u) t → length s.blocks ≡ 64 → (h : Option Hit) → Place s h → Left s (searched h s)
   left_here s f len h q = record {
     shaped = f;
     size = len;
@@ -150,17 +149,17 @@ module _ (u : List ℕ) (t p n : ℕ) (pos : 0 < n) where
 
   -- one block more
   after_left : (s : State) (i : ℕ) (rest : State → Searched) → Rest rest s.count → Shaped s (length u) t → length s.blocks ≡ 64 → i < s.count
-      → (block_at s i).pool ≡ p → (l : Looked) → look_into s.w (block_at s i) u n ≡ l → Told (block_at s i) n l → Left s (after s i rest l)
-  after_left s i rest ih f len h e (Found unit) z q = left_here s f len (At i unit) (h, e, q, z)
-  after_left s i rest ih f len h e (Missed c) z (inl same) = moved s i c rest ih f len h (same_refl same)
+      → (block_at s i).pool ≡ p → (l : Result ℕ Block) → look_into s.w (block_at s i) u n ≡ l → Told (block_at s i) n l → Left s (after s i rest l)
+  after_left s i rest ih f len h e (Ok unit) z q = left_here s f len (hit_at i unit) (h, e, q, z)
+  after_left s i rest ih f len h e (Err c) z (inl same) = moved s i c rest ih f len h (same_refl same)
       (subst (ShapedBlockIn s) (sym same) (f.sound i h))
-  after_left s i rest ih f len h e (Missed c) z (inr q) = moved s i c rest ih f len h
+  after_left s i rest ih f len h e (Err c) z (inr q) = moved s i c rest ih f len h
       (same_trans (same_refl q.3) (tight_same (block_at s i) q.0 q.1 q.2))
       (subst (ShapedBlockIn s) (sym q.3) (tight_sound s (block_at s i) q.0 q.1 q.2 (f.sound i h) q.4 q.5 q.6))
 
   from_left : (i k : ℕ) (s : State) → i + k ≡ s.count → Shaped s (length u) t → length s.blocks ≡ 64 → Left s (search_from u p n i k s)
   unfolding search_from
-  from_left i zero s e f len = left_here s f len Nowhere tt
+  from_left i zero s e f len = left_here s f len None tt
   from_left i (suc k) s e f len =
       go (λ r c g m. from_left (suc i) k r (omega (arith, e, c)) g m) (in_pool s p i) refl
     where

@@ -14,7 +14,6 @@ use Rattle.block.specs.declared.Block.{Block}
 use Rattle.block.specs.Marking.{released, widened}
 use Rattle.sizes.proofs.Pools.{pool_below}
 use Rattle.state.specs.declared.State.{State}
-use Rattle.state.specs.declared.Hit.TheVariants.{At}
 use Rattle.state.specs.declared.Refusal.{Refusal}
 use Rattle.state.specs.declared.Answer.TheVariants.{Refused}
 use Rattle.state.specs.Table.{block_at, sum}
@@ -26,7 +25,7 @@ use Rattle.shape_facts.proofs.Facts.{count_64, unit_g, pool_3, found_in, held_in
 use Rattle.shape_facts.proofs.Search.{Place}
 use Rattle.shape_facts.proofs.Pool.{whole, units_kept}
 use Rattle.machine.specs.Turn.{Turn, with_live, unit_of}
-use Rattle.machine.specs.Alloc.{pool_for, units_for, search_for, new_size, alloc_marked, alloc_made}
+use Rattle.machine.specs.Alloc.{pool_for, units_for, search_for, new_size, alloc_marked, alloc_made, hit_at}
 use Rattle.machine.specs.Release.{less_used, release_units}
 use Rattle.machine.specs.Shrink.{shrink_tail}
 use Rattle.machine.specs.Reset.{reset_turn}
@@ -75,7 +74,7 @@ module _ (s : State) (u t : List ℕ) (z : Sized s) (size bytes : ℕ) (k : Seek
   full : good_shape r (length u) (length t) ≡ true
   full = enough_good r (length u) (length t) (shaped_enough r (length u) (length t) shaped)
 
-  hit : (j i : ℕ) → (search_for s u bytes).hit ≡ At j i → Keeps u t (alloc_marked r u t j i (units_for s bytes))
+  hit : (j i : ℕ) → (search_for s u bytes).hit ≡ hit_at j i → Keeps u t (alloc_marked r u t j i (units_for s bytes))
   hit j i e =
       let some = seeks_some s u t size bytes k in
       let p = subst (Place u (length t) (pool_for s bytes) (units_for s bytes) some r) e (seeks_left s u t size bytes k z).place in

@@ -6,8 +6,7 @@ use mathlib.Core.Path.{refl, ◌∙◌}
 use lib.ListN.{length-set}
 use Rattle.numbers.proofs.Bools.{picked}
 use Rattle.block.specs.declared.Block.{Block}
-use Rattle.block.specs.declared.Looked.{Looked}
-use Rattle.block.specs.declared.Looked.TheVariants.{Found as found, Missed as missed}
+use Rattle.std.specs.Prelude.{Result, Ok, Err}
 use Rattle.block.specs.Marking.{emptied, marked, mark_released, mark_shrunk}
 use Rattle.block.specs.Search.{look_into}
 use Rattle.sizes.specs.declared.Pool.{Pool}
@@ -72,9 +71,9 @@ sized_kept_blocks s (suc n) =
     (λ e. sized_keep (kept s n) (sized_kept_blocks s n) (block_at s n)) (λ e. sized_kept_blocks s n)
 
 -- ---- a search
-after_sized : (s : State) → Sized s → (i : ℕ) (rest : State → Searched) → ((r : State) → Sized r → Sized (rest r).state) → (l : Looked) → Sized (after s i rest l).state
-after_sized s z i rest ih (found unit) = z
-after_sized s z i rest ih (missed b) = ih (put_block s i b) (sized_block s z i b)
+after_sized : (s : State) → Sized s → (i : ℕ) (rest : State → Searched) → ((r : State) → Sized r → Sized (rest r).state) → (l : Result ℕ Block) → Sized (after s i rest l).state
+after_sized s z i rest ih (Ok unit) = z
+after_sized s z i rest ih (Err b) = ih (put_block s i b) (sized_block s z i b)
 
 from_sized : (u : List ℕ) (p n i k : ℕ) (s : State) → Sized s → Sized (search_from u p n i k s).state
 unfolding search_from

@@ -13,7 +13,6 @@ use Rattle.block.specs.declared.Block.{Block}
 use Rattle.block.specs.Marking.{fresh, mark_released}
 use Rattle.numbers.specs.Units.{units_of}
 use Rattle.state.specs.declared.State.{State}
-use Rattle.state.specs.declared.Hit.TheVariants.{At}
 use Rattle.state.specs.Table.{block_at, pool_at}
 use Rattle.state.specs.Shape.{good_shape}
 use Rattle.state.specs.Change.{inserted}
@@ -28,7 +27,7 @@ use Rattle.shape_facts.proofs.Leaves.{released_stays}
 use Rattle.machine.specs.Turn.{Turn, with_live, clear_slot}
 use Rattle.state.specs.declared.Asked.{Asked}
 use Rattle.machine.specs.Create.{slots_of, granted}
-use Rattle.machine.specs.Alloc.{pool_for, units_for, search_for, new_size, alloc_marked, alloc_made}
+use Rattle.machine.specs.Alloc.{pool_for, units_for, search_for, new_size, alloc_marked, alloc_made, hit_at}
 use Rattle.machine.specs.Release.{less_used, release_units, release_turn}
 use Rattle.machine.specs.Shrink.{shrink_tail}
 use Rattle.machine.specs.Reset.{clear_blocks}
@@ -119,7 +118,7 @@ module _ (s : State) (u t : List ℕ) (z : Sized s) where
       let room : (i : ℕ) → i < s.count → Room s.w (block_at s i).slot u t = λ i h. slot_room s (length u) (length t) f (block_at s i).slot (f.sound i h).slot in
       (length_clear s s.count u (λ i h. (room i h).0), length_clear s s.count t (λ i h. (room i h).1))
 
-  hit : (size bytes j i : ℕ) → Seeks s u t size bytes → (search_for s u bytes).hit ≡ At j i → Long u t (alloc_marked (search_for s u bytes).state u t j i (units_for s bytes))
+  hit : (size bytes j i : ℕ) → Seeks s u t size bytes → (search_for s u bytes).hit ≡ hit_at j i → Long u t (alloc_marked (search_for s u bytes).state u t j i (units_for s bytes))
   hit size bytes j i k e =
       let l = seeks_left s u t size bytes k z in
       let r = (search_for s u bytes).state in

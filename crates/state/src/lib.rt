@@ -145,15 +145,15 @@ impl From<NotHeld> for Refusal {
 
 // A place that a search of a pool found: a block's age and a unit in it.
 #[derive(Clone, Copy)]
-pub enum Hit {
-    At(usize, u32),
-    Nowhere,
+pub struct Hit {
+    pub age: usize,
+    pub unit: u32,
 }
 
-// The result of a search of a pool: the place, and the record with the windows that the search tightened.
+// The result of a search of a pool: the place, if there is one, and the record with the windows that the search tightened.
 #[derive(Clone, Copy)]
 pub struct Searched {
-    pub hit: Hit,
+    pub hit: Option<Hit>,
     pub state: State,
 }
 

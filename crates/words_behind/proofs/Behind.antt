@@ -7,6 +7,7 @@ use mathlib.Core.Path.{◌≡◌, refl, sym, ap, ap₂, subst, ◌∙◌}
 use native.Mathlib.Omega.{arith}
 use lib.Dec.{leb, ltb, eqb}
 use lib.ListN.{length}
+use Rattle.std.specs.Prelude.{Option, Some, None}
 use Rattle.numbers.specs.Pick.{pick}
 use Rattle.numbers.specs.Units.{units_of, bytes_of}
 use Rattle.block.specs.declared.Block.{Block}
@@ -18,7 +19,6 @@ use Rattle.sizes.specs.Sizes.{rounded, ideal_size}
 use Rattle.state.specs.declared.State.{State}
 use Rattle.state.specs.Held.{Held}
 use Rattle.state.specs.declared.Hit.{Hit}
-use Rattle.state.specs.declared.Hit.TheVariants.{At, Nowhere}
 use Rattle.state.specs.declared.Searched.{Searched}
 use Rattle.state.specs.declared.Refusal.TheVariants.{InvalidArgument, InvalidState, NoMapping, Damaged}
 use Rattle.state.specs.declared.Answer.TheVariants.{Released, Shrunk, Reset}
@@ -177,11 +177,11 @@ module _ (s : State) (u t v v' : List ℕ) (z : Sized s) (room : s.slots * s.w �
     placed_behind b (Some at) None e = refl
     placed_behind b None f e = refl
 
-    searched_behind : (h : Hit) → (search_for s u bytes).hit ≡ h → alloc_searched r (u ++ v) (t ++ v') p n bytes h ≡ behind (alloc_searched r u t p n bytes h) v v'
-    searched_behind (At j i) e =
+    searched_behind : (h : Option Hit) → (search_for s u bytes).hit ≡ h → alloc_searched r (u ++ v) (t ++ v') p n bytes h ≡ behind (alloc_searched r u t p n bytes h) v v'
+    searched_behind (Some h) e =
         let q = subst (Placed u (length t) p n (seeks_some s u t size bytes k) r) e left.place in
-        mark_behind u t v v' r j i n (slot_lies (block_at r j).slot (left.shaped.sound j q.0).slot)
-    searched_behind Nowhere e =
+        mark_behind u t v v' r h.age h.unit n (slot_lies (block_at r h.age).slot (left.shaped.sound h.age q.0).slot)
+    searched_behind None e =
         placed_behind (ideal_size (newest_size r p) bytes) (lowest_place r (ideal_size (newest_size r p) bytes)) (lowest_slot r) refl
 
     search_same : search_pool s (u ++ v) p n ≡ search_pool s u p n

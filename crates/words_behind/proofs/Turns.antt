@@ -13,8 +13,7 @@ use Rattle.numbers.specs.Pick.{pick}
 use Rattle.numbers.specs.Units.{units_of}
 use Rattle.slots.specs.Slots.{fill_slot}
 use Rattle.block.specs.declared.Block.{Block}
-use Rattle.block.specs.declared.Looked.{Looked}
-use Rattle.block.specs.declared.Looked.TheVariants.{Found, Missed}
+use Rattle.std.specs.Prelude.{Result, Ok, Err}
 use Rattle.block.specs.Marking.{fresh}
 use Rattle.block.specs.Search.{look_into}
 use Rattle.state.specs.declared.State.{State}
@@ -117,9 +116,9 @@ search_behind u v p n i (suc k) s room =
     go (λ r. search_behind u v p n (suc i) k r) (in_pool s p i)
   where
     missed : ((r : State) → ((j : ℕ) → suc i ≤ j → j < suc i + k → ((block_at r j).slot + 1) * r.w ≤ length u) → search_from (u ++ v) p n (suc i) k r ≡ search_from u p n (suc i) k r)
-        → (l : Looked) → after s i (search_from (u ++ v) p n (suc i) k) l ≡ after s i (search_from u p n (suc i) k) l
-    missed ih (Found unit) = refl
-    missed ih (Missed b) =
+        → (l : Result ℕ Block) → after s i (search_from (u ++ v) p n (suc i) k) l ≡ after s i (search_from u p n (suc i) k) l
+    missed ih (Ok unit) = refl
+    missed ih (Err b) =
         ih (put_block s i b)
         (λ j p q.
         subst (λ (c : Block). (c.slot + 1) * s.w ≤ length u) (sym (get_or-set_other s.blocks i j b zero_block (λ z. omega (arith, p, z))))

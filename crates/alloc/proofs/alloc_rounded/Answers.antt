@@ -74,11 +74,11 @@ mark_span-requires c =
     let n = units_of a.bytes (pool_at a.s p).granularity in
     let pos = some_units a.s lu lt a.bytes c.requires in
     let st = c.search_pool-found.result.state in
-    let j = c.in-At.j in
-    let i = c.in-At.i in
+    let j = c.in-Some.hit.age in
+    let i = c.in-Some.hit.unit in
     let kept = left (goal.at.mark_span-requires c).After-search_pool-found in
     let units = units_are (goal.at.mark_span-requires c).After-area_size_from_byte_size-n in
-    let place = subst (Place a.used.now lt p n pos st) c.in-At.is kept.place in
+    let place = subst (Place a.used.now lt p n pos st) c.in-Some.is kept.place in
     hit_ready st lu lt kept.shaped j i c.area_size_from_byte_size-n.result place.0 (subst (λ (k : ℕ). Fits (block_at st j) k i) (sym units) place.2) (omega (arith, units, pos))
 
 pub newest_size-newest-requires : goal.newest_size-newest-requires

@@ -1,6 +1,6 @@
 use borrow.Author.Tests.{eq-eqb, ne_eqb}
 use Rattle.block.specs.Marking.{released}
-use Rattle.block.proofs.released_record.Goals as goal
+use Rattle.block.proofs.Block.released.Goals as goal
 
 pub returns-then-used-eq0 : goal.returns-then-used-eq0
 unfolding released
@@ -8,4 +8,4 @@ returns-then-used-eq0 c = let h = c.if-used-eq0.true in rw (eq-eqb _ _ h, h)
 
 pub returns : goal.returns
 unfolding released
-returns c = simp (ne_eqb _ _ c.if-used-eq0.false, c.lesser.ensures, c.greater.ensures)
+returns c = rw (ne_eqb _ _ c.if-used-eq0.false) c.shrunk.ensures

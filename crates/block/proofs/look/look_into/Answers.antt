@@ -6,7 +6,7 @@ use native.Mathlib.Omega.{arith}
 use Rattle.runs.specs.Window.{Sought}
 use Rattle.runs.proofs.Seek.{seek_only}
 use Rattle.slots.specs.Slots.{slot_of}
-use Rattle.block.specs.declared.Looked.TheVariants.{Missed}
+use Rattle.std.specs.Prelude.{Err}
 use Rattle.block.specs.Search.{worth_searching, looked, look_into}
 use Rattle.block.proofs.look.look_into.Goals.{After-search_window-got, After-slot-part}
 use Rattle.block.proofs.look.look_into.Goals as goal
@@ -33,7 +33,7 @@ pub returns-in-At : goal.returns-in-At
 returns-in-At c = sym (ap (looked c.args.b) c.in-At.is) ∙ known (goal.at.returns-in-At c).After-search_window-got
 
 pub returns-in-Tight : goal.returns-in-Tight
-returns-in-Tight c = ap Missed c.tightened_record.ensures ∙ sym (ap (looked c.args.b) c.in-Tight.is) ∙ known (goal.at.returns-in-Tight c).After-search_window-got
+returns-in-Tight c = ap Err c.tightened.ensures ∙ sym (ap (looked c.args.b) c.in-Tight.is) ∙ known (goal.at.returns-in-Tight c).After-search_window-got
 
 pub returns-in-Full : goal.returns-in-Full
 returns-in-Full c = sym (ap (looked c.args.b) c.in-Full.is) ∙ known (goal.at.returns-in-Full c).After-search_window-got
