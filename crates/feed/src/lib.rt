@@ -1,7 +1,7 @@
 // Feeds a trace from a file or from standard input to the trace library, one buffer at a time. The programs that play traces share this.
 #![tactic(auto)]
 
-ghost use Rattle.std.specs.Prelude.{◌≡◌, ◌-◌, ◌≤◌, length, IfOk, OnErr};
+ghost use Rattle.std.specs.Prelude.{◌≡◌, ◌-◌, ◌≤◌, length, take, IfOk, OnErr};
 
 use state::State;
 use std::env::FillError;
@@ -11,16 +11,7 @@ use std::io::{ErrorKind, Read};
 use std::rt::{Env, Stdin};
 use trace::Played;
 
-// Where a trace stands: the state, how many bytes were played (`offset`), how many wait at the front of the buffer, how many the last turn
-// wrote, and whether that turn was the last one (`done`).
-#[derive(Clone, Copy)]
-pub struct Feed {
-    pub state: State,
-    pub offset: u64,
-    pub waiting: usize,
-    pub written: usize,
-    pub done: bool,
-}
+// ---- where a trace comes from
 
 // Where a trace comes from.
 #[derive(Drop)]
@@ -38,25 +29,6 @@ impl Read for Source {
     }
 }
 
-pub fn start() -> Feed
-    ensures { result.waiting ≡ 0 }
-{
-    Feed {
-        state: state::zero_state(),
-        offset: 0,
-        waiting: 0,
-        written: 0,
-        done: false,
-    }
-}
-
-// Makes a map of as many words as document 01's program has.
-pub fn map_words() -> [u32; 8192]
-    ensures { 8192 ≡ length result }
-{
-    [0; 8192]
-}
-
 // Opens the file that the program's argument names, or takes standard input if there is no argument.
 pub fn open(rt: &HostRuntime) -> io::Result<Source> {
     let mut path = [0u8; 4096];
@@ -72,105 +44,171 @@ pub fn open(rt: &HostRuntime) -> io::Result<Source> {
     }
 }
 
-// Moves the bytes of `buffer` from `from` up to `to` to its front.
-fn keep(buffer: &mut [u8], from: usize, to: usize)
-    requires { (from ≤ to) × (to ≤ length buffer.old) }
+// Reads until the buffer is full or the input ends, and returns how many bytes came.
+pub fn read_full<R: Read>(source: &mut R, bytes: &mut [u8]) -> io::Result<usize>
+    ensures { IfOk result (λ n. n ≤ length bytes.old) }
 {
-    let mut i = from;
-    while i < to {
-        buffer[i - from] = buffer[i];
-        i += 1;
+    let mut done: usize = 0;
+    while done < bytes.len() {
+        let more = source.read(&mut bytes[done..])?;
+        if more == 0 {
+            break;
+        }
+        done += more;
     }
+    Ok(done)
 }
 
-// Reads once, into the buffer after the bytes that wait, and returns how many bytes came: none at the input's end.
-fn fill<R: Read>(source: &mut R, buffer: &mut [u8], waiting: usize) -> io::Result<usize>
-    requires { waiting ≤ length buffer.old }
-    ensures { IfOk result (λ more. more ≤ length buffer.old - waiting) }
+// ---- the play of a trace
+
+// Makes a map of as many words as document 01's program has.
+pub fn map_words() -> [u32; 8192]
+    ensures { 8192 ≡ length result }
 {
-    source.read(&mut buffer[waiting..])
+    [0; 8192]
 }
 
-// Writes the trace's last line, and ends the trace.
-fn last(state: State, offset: u64, waiting: usize, out: &mut [u8]) -> Feed
-    ensures { (result.waiting ≡ waiting) × (result.written ≤ length out.old) }
-{
-    let written = lines::finish(state, offset, waiting, out);
-    Feed {
-        state,
-        offset,
-        waiting,
-        written,
-        done: true,
-    }
-}
+// The most bytes that a turn writes.
+pub const ROOM: usize = 65536;
 
-// Reads on, since the buffer holds no whole record; writes the last line if the trace ends. If the read fails, there is no last line.
-fn read_on<R: Read>(
-    source: &mut R,
-    state: State,
+// The play of a trace: the state and its maps, how many bytes were played (`offset`), how many wait at the front of the buffer, how many
+// bytes of `out` a turn may write (`room`), and how many the last one wrote.
+#[derive(Drop)]
+pub struct Feed {
+    pub state: State,
+    pub used: [u32; 8192],
+    pub stop: [u32; 8192],
     offset: u64,
+    buffer: [u8; 4096],
     waiting: usize,
-    buffer: &mut [u8],
-    out: &mut [u8],
-) -> io::Result<Feed>
-    requires { waiting ≤ length buffer.old }
-    ensures { IfOk result (λ f. (f.waiting ≤ length buffer.old) × (f.written ≤ length out.old)) }
-{
-    let more = fill(source, buffer, waiting)?;
-    if more == 0 {
-        return Ok(last(state, offset, waiting, out));
-    }
-    Ok(Feed {
-        state,
-        offset,
-        waiting: waiting + more,
-        written: 0,
-        done: false,
-    })
+    out: [u8; ROOM],
+    room: usize,
+    written: usize,
+    ghost waiting_fits: { waiting ≤ 4096 },
+    ghost room_fits: { room ≤ 65536 },
+    ghost written_fits: { written ≤ room },
 }
 
-// Drops the played records from the buffer: moves the bytes after them to its front.
-fn go_on(f: Feed, p: Played, buffer: &mut [u8]) -> Feed
-    requires { (p.taken ≤ f.waiting) × (f.waiting ≤ length buffer.old) }
-    ensures { (result.waiting ≤ length buffer.old) × (result.written ≡ p.written) }
-{
-    let waiting = f.waiting;
-    let taken = p.taken;
-    let state = p.state;
-    keep(buffer, taken, waiting);
-    Feed {
-        state,
-        offset: std::num::wrapping_add_u64(f.offset, taken as u64),
-        waiting: waiting - taken,
-        written: p.written,
-        done: false,
-    }
+// What a turn did: it played records, or read on, or wrote the trace's last line.
+#[derive(Clone, Copy, PartialEq, Eq)]
+pub enum Turn {
+    Played,
+    ReadOn,
+    Ended,
 }
 
-// Takes one turn: plays the records in the buffer, as many as `out` has room for; reads on if there is no whole one; writes the last line
-// if the trace ends. The caller then writes out the first `written` bytes of `out`. If the read fails, nothing was played.
-pub fn turn<R: Read>(
-    source: &mut R,
-    f: Feed,
-    used: &mut [u32],
-    stop: &mut [u32],
-    buffer: &mut [u8],
-    out: &mut [u8],
-) -> io::Result<Feed>
-    requires { f.waiting ≤ length buffer.old }
-    ensures ok { IfOk result (λ r. (r.waiting ≤ length buffer.old) × (r.written ≤ length out.old)) }
-    ensures err { OnErr result ((used.new ≡ used.old) × (stop.new ≡ stop.old)) }
-{
-    let waiting = f.waiting;
-    let before = f.state;
-    let p = trace::play(before, used, stop, &buffer[..waiting], out);
-    if 0 < p.taken {
-        return Ok(go_on(f, p, buffer));
+impl Feed {
+    // Starts before a trace's first byte. A turn will write at most `room` bytes.
+    pub fn new(room: usize) -> Self
+        requires { room ≤ ROOM }
+        ensures nothing_waits { result.waiting ≡ 0 }
+    {
+        Feed {
+            state: state::zero_state(),
+            used: map_words(),
+            stop: map_words(),
+            offset: 0,
+            buffer: [0; 4096],
+            waiting: 0,
+            out: [0; ROOM],
+            room,
+            written: 0,
+        }
     }
-    let state = p.state;
-    if p.bad {
-        return Ok(last(state, f.offset, waiting, out));
+
+    // Returns the lines that the last turn wrote.
+    pub fn lines(&self) -> &[u8]
+        ensures { result.now ≡ take self.now.written self.now.out }
+    {
+        &self.out[..self.written]
     }
-    read_on(source, state, f.offset, waiting, buffer, out)
+
+    // Drops the played records from the buffer: moves the bytes after them to its front.
+    fn go_on(&mut self, p: Played)
+        requires taken_waited { p.taken ≤ self.old.waiting }
+        requires lines_fit { p.written ≤ self.old.room }
+        ensures shows_its_lines { self.new.written ≡ p.written }
+    {
+        let taken = p.taken;
+        let waiting = self.waiting;
+        self.buffer.copy_within(taken..waiting, 0);
+        self.state = p.state;
+        self.offset = self.offset.wrapping_add(taken as u64);
+        self.waiting = waiting - taken;
+        self.written = p.written;
+    }
+
+    // Writes the trace's last line.
+    fn end(&mut self)
+        ensures maps_stay { (self.new.used ≡ self.old.used) × (self.new.stop ≡ self.old.stop) }
+        ensures state_stays { self.new.state ≡ self.old.state }
+    {
+        let state = self.state;
+        let room = self.room;
+        let out = &mut self.out[..];
+        let written = lines::finish(state, self.offset, self.waiting, &mut out[..room]);
+        self.written = written;
+    }
+
+    // Reads on, since the buffer holds no whole record; writes the last line if the trace ends. If the read fails, there is no last line.
+    fn read_on<R: Read>(&mut self, source: &mut R) -> io::Result<Turn>
+        ensures maps_stay { (self.new.used ≡ self.old.used) × (self.new.stop ≡ self.old.stop) }
+        ensures state_stays { self.new.state ≡ self.old.state }
+    {
+        let waiting = self.waiting;
+        let more = source.read(&mut self.buffer[waiting..])?;
+        if more == 0 {
+            self.end();
+            return Ok(Turn::Ended);
+        }
+        self.waiting = waiting + more;
+        self.written = 0;
+        Ok(Turn::ReadOn)
+    }
+
+    // Takes one turn: plays the records in the buffer, as many as there is room for; reads on if there is no whole one; writes the last line
+    // if the trace ends. If the read fails, nothing was played.
+    pub fn turn<R: Read>(&mut self, source: &mut R) -> io::Result<Turn>
+        ensures err { OnErr result ((self.new.used ≡ self.old.used) × (self.new.stop ≡ self.old.stop)) }
+        ensures err_state { OnErr result (self.new.state ≡ self.old.state) }
+    {
+        let waiting = self.waiting;
+        let room = self.room;
+        let out = &mut self.out[..];
+        let p = trace::play(
+            self.state,
+            &mut self.used,
+            &mut self.stop,
+            &self.buffer[..waiting],
+            &mut out[..room],
+        );
+        if 0 < p.taken {
+            self.go_on(p);
+            return Ok(Turn::Played);
+        }
+        if p.bad {
+            self.end();
+            return Ok(Turn::Ended);
+        }
+        self.read_on(source)
+    }
+
+    // Plays the trace to its end, and calls `after` with each turn.
+    pub fn play_all<R: Read, F: FnMut(&Feed, Turn) -> io::Result<()>>(
+        &mut self,
+        source: &mut R,
+        mut after: F,
+    ) -> io::Result<()>
+        requires { F.IsAlwaysCallable after }
+    {
+        // Bounds the loop for the checker: nothing proves that a file ends.
+        for _ in 0..u64::MAX {
+            let turn = self.turn(source)?;
+            after(self, turn)?;
+            if turn == Turn::Ended {
+                break;
+            }
+        }
+        Ok(())
+    }
 }

@@ -3,27 +3,21 @@
 #![tactic(auto)]
 
 use block::Block;
-use feed::Feed;
+use feed::{Feed, Turn};
 use sizes::Pool;
-use state::State;
 use std::io;
-use std::io::Read;
 
 // ---- lines
 
 // Hashes `count` words of a map from word `base` on.
-fn hash(words: &[u32], base: usize, count: u32) -> u64 {
-    let mut h: u64 = 0;
-    let mut i: u32 = 0;
-    while i < count {
-        let word = show::word_at(words, std::num::wrapping_add_usize(base, i as usize));
-        h = (h * 31 + word as u64) % 4294967296;
-        i += 1;
-    }
-    h
+fn hash(words: &[u32], base: usize, count: u32) -> u32 {
+    (0..count as usize).fold(0, |hash: u32, i| {
+        let word = show::word_at(words, base.wrapping_add(i));
+        hash.wrapping_mul(31).wrapping_add(word)
+    })
 }
 
-fn pool_line(rt: &impl Print, k: usize, q: Pool) -> io::Result<()> {
+fn pool_line(rt: &impl Print, k: usize, q: &Pool) -> io::Result<()> {
     let numbers = [
         k as u64,
         q.granularity,
@@ -32,12 +26,12 @@ fn pool_line(rt: &impl Print, k: usize, q: Pool) -> io::Result<()> {
         q.area as u64,
         q.used as u64,
     ];
-    show::line(rt, b"  pool", &numbers)
+    show::line(rt, "  pool", &numbers)
 }
 
-fn block_line(rt: &impl Print, age: u64, used: u64, stop: u64, b: Block) -> io::Result<()> {
+fn block_line(rt: &impl Print, age: usize, b: &Block, used: u32, stop: u32) -> io::Result<()> {
     let numbers = [
-        age,
+        age as u64,
         b.base,
         b.size,
         b.pool as u64,
@@ -48,100 +42,61 @@ fn block_line(rt: &impl Print, age: u64, used: u64, stop: u64, b: Block) -> io::
         b.start as u64,
         b.end as u64,
         b.largest as u64,
-        used,
-        stop,
+        used as u64,
+        stop as u64,
     ];
-    show::line(rt, b"  block", &numbers)
+    show::line(rt, "  block", &numbers)
 }
 
 // ---- a state
 
-fn show_pools(rt: &impl Print, s: State) -> io::Result<()> {
-    for k in 0..3 {
-        if k < s.poolcount {
-            pool_line(rt, k, s.pools[k])?;
-        }
+fn show_pools(rt: &impl Print, play: &Feed) -> io::Result<()> {
+    for (k, q) in play
+        .state
+        .pools
+        .iter()
+        .enumerate()
+        .take(play.state.poolcount)
+    {
+        pool_line(rt, k, q)?;
     }
     Ok(())
 }
 
-fn show_block(
-    rt: &impl Print,
-    age: usize,
-    b: Block,
-    w: usize,
-    used: &[u32],
-    stop: &[u32],
-) -> io::Result<()> {
-    let base = show::slot_base(b.slot, w);
+fn show_block(rt: &impl Print, play: &Feed, age: usize, b: &Block) -> io::Result<()> {
+    let base = show::slot_base(b.slot, play.state.w);
     let count = b.area / 32;
-    block_line(
-        rt,
-        age as u64,
-        hash(used, base, count),
-        hash(stop, base, count),
-        b,
-    )
+    let used = hash(&play.used, base, count);
+    let stop = hash(&play.stop, base, count);
+    block_line(rt, age, b, used, stop)
 }
 
-fn show_blocks(rt: &impl Print, s: State, used: &[u32], stop: &[u32]) -> io::Result<()> {
-    for i in 0..state::SLOT_LIMIT {
-        if i < s.count {
-            show_block(rt, i, s.blocks[i], s.w, used, stop)?;
-        }
+fn show_blocks(rt: &impl Print, play: &Feed) -> io::Result<()> {
+    for (age, b) in play.state.blocks.iter().enumerate().take(play.state.count) {
+        show_block(rt, play, age, b)?;
     }
     Ok(())
 }
 
-fn show_state(rt: &impl Print, s: State, used: &[u32], stop: &[u32]) -> io::Result<()> {
-    show::line(rt, b"  state", &[s.live, s.count as u64])?;
-    show_pools(rt, s)?;
-    show_blocks(rt, s, used, stop)
+fn show_state(rt: &impl Print, play: &Feed) -> io::Result<()> {
+    show::line(rt, "  state", &[play.state.live, play.state.count as u64])?;
+    show_pools(rt, play)?;
+    show_blocks(rt, play)
 }
 
 // ---- the trace
 
 // Shows what a turn wrote, and the state if that was a call's line. The trace's last line has no state after it.
-fn show_turn(rt: &impl Print, f: Feed, used: &[u32], stop: &[u32], out: &[u8]) -> io::Result<()> {
-    show::front(rt, out, f.written)?;
-    if 0 < f.written && !f.done {
-        let s = f.state;
-        show_state(rt, s, used, stop)?;
-    }
-    Ok(())
-}
-
-// Plays the whole trace. `out` has room for one line only, so that a turn plays at most one record.
-fn play_all<R: Read>(
-    rt: &impl Print,
-    source: &mut R,
-    used: &mut [u32],
-    stop: &mut [u32],
-    buffer: &mut [u8],
-    out: &mut [u8],
-) -> io::Result<()> {
-    let mut f = feed::start();
-    // Bounds the loop for the checker: nothing proves that a file ends.
-    let mut turns = u64::MAX;
-    while 0 < turns && !f.done {
-        f = feed::turn(source, f, used, stop, buffer, out)?;
-        show_turn(rt, f, used, stop, out)?;
-        turns -= 1;
+fn show_turn(rt: &impl Print, play: &Feed, turn: Turn) -> io::Result<()> {
+    rt.write_all(play.lines())?;
+    if turn == Turn::Played {
+        show_state(rt, play)?;
     }
     Ok(())
 }
 
 fn main(rt: HostRuntime) -> io::Result<()> {
-    let mut used = feed::map_words();
-    let mut stop = feed::map_words();
-    let mut buffer = [0u8; 4096];
-    let mut out = [0u8; 80];
-    play_all(
-        &rt,
-        &mut rt.stdin(),
-        &mut used,
-        &mut stop,
-        &mut buffer,
-        &mut out,
-    )
+    // There is room for one line only, so that a turn plays at most one record.
+    let mut play = Feed::new(80);
+    play.play_all(&mut rt.stdin(), |play, turn| show_turn(&rt, play, turn))
 }

@@ -2,17 +2,76 @@
 // oracle/README.md ("Filled mode"), so that every byte of the image can be compared with the original's.
 #![tactic(auto)]
 
-ghost use Rattle.std.specs.Prelude.{◌≡◌, ◌<◌, ◌≤◌, length, IfOk};
+ghost use Rattle.std.specs.Prelude.{◌<◌, ◌≤◌, length};
 
 use records::{Call, Record, Unread};
 use state::{Answer, Outcome, State};
 use std::io;
-use std::io::{ErrorKind, Read};
 
 // In memory: the bytes 44 33 22 11.
 const PATTERN: u32 = 0x11223344;
 
 // ---- calls
+
+// Returns the lesser of `n` and the number of bytes.
+fn at_most(n: u64, bytes: &[u8]) -> usize
+    ensures { result ≤ length bytes.now }
+{
+    n.min(bytes.len() as u64) as usize
+}
+
+// What each call is lent: both maps, and an image of the arena at its front. The calls refuse the image for an arena longer than 1 MiB.
+#[derive(Drop)]
+struct Lent {
+    used: [u32; 8192],
+    stop: [u32; 8192],
+    image: [u8; 1048576],
+}
+
+impl Lent {
+    fn new() -> Self {
+        Lent {
+            used: feed::map_words(),
+            stop: feed::map_words(),
+            image: [0; 1048576],
+        }
+    }
+
+    // Makes a call, and lends it the image's bytes that stand for the arena.
+    fn call(&mut self, s: State, c: Call) -> Outcome {
+        let n = at_most(s.length, &self.image);
+        let all = &mut self.image[..];
+        call(s, &mut self.used, &mut self.stop, &mut all[..n], c)
+    }
+
+    // Writes bytes into the span at an address.
+    fn copy(&mut self, s: State, address: u64, offset: u64, bytes: &[u8]) -> Answer {
+        let n = at_most(s.length, &self.image);
+        let all = &mut self.image[..];
+        filling::copy::copy_from_slice(
+            s,
+            &self.used,
+            &self.stop,
+            &mut all[..n],
+            address,
+            offset,
+            bytes,
+        )
+    }
+
+    // Clears the image after a granted creation.
+    fn clear_where_created(&mut self, answer: Answer) {
+        if let Answer::Created(_, _, _) = answer {
+            self.image.fill(0);
+        }
+    }
+
+    // Returns the hash of the bytes that stand for the arena.
+    fn hash(&self, s: State) -> u32 {
+        let n = at_most(s.length, &self.image);
+        hash(&self.image[..n])
+    }
+}
 
 fn call(s: State, used: &mut [u32], stop: &mut [u32], image: &mut [u8], c: Call) -> Outcome {
     match c {
@@ -23,53 +82,32 @@ fn call(s: State, used: &mut [u32], stop: &mut [u32], image: &mut [u8], c: Call)
         ),
         Call::SoftReset => filling::soft_reset(s, used, stop, image, PATTERN),
         Call::HardReset => filling::hard_reset(s, used, stop, image, PATTERN),
-        Call::Create(_) => calls::call(s, used, stop, c),
-        Call::Query(_) => calls::call(s, used, stop, c),
+        Call::Create(_) | Call::Query(_) => calls::call(s, used, stop, c),
     }
 }
 
-// Clears the image after a granted creation.
-fn clear_where_created(answer: Answer, image: &mut [u8]) {
-    if let Answer::Created(_, _, _) = answer {
-        image::fill_pattern(image, 0, image.len(), 0);
-    }
-}
-
-// Returns the lesser of `n` and the number of bytes.
-fn at_most(n: u64, bytes: &[u8]) -> usize
-    ensures { result ≤ length bytes.now }
-{
-    if n < bytes.len() as u64 {
-        n as usize
-    } else {
-        bytes.len()
-    }
+fn hash(bytes: &[u8]) -> u32 {
+    bytes.iter().fold(
+        0,
+        |hash: u32, byte| hash.wrapping_mul(31).wrapping_add(*byte as u32),
+    )
 }
 
 // ---- the write after call number k
 
 fn call_address(c: Call) -> u64 {
     match c {
-        Call::Release(address) => address,
-        Call::Shrink(address, _) => address,
-        Call::Query(address) => address,
-        Call::Create(_) => 0,
-        Call::Alloc(_) => 0,
-        Call::SoftReset => 0,
-        Call::HardReset => 0,
+        Call::Release(address) | Call::Shrink(address, _) | Call::Query(address) => address,
+        Call::Create(_) | Call::Alloc(_) | Call::SoftReset | Call::HardReset => 0,
     }
 }
 
 // Returns the address of the answer's span, or else the call's own address.
 fn write_address(answer: Answer, c: Call) -> u64 {
     match answer {
-        Answer::Granted(x) => x.address,
-        Answer::Shown(x) => x.address,
-        Answer::Released(x) => x.address,
-        Answer::Shrunk(x) => x.address,
-        Answer::Created(_, _, _) => call_address(c),
-        Answer::Reset => call_address(c),
-        Answer::Refused(_) => call_address(c),
+        Answer::Granted(x) | Answer::Shown(x) | Answer::Released(x) | Answer::Shrunk(x) =>
+            x.address,
+        Answer::Created(_, _, _) | Answer::Reset | Answer::Refused(_) => call_address(c),
     }
 }
 
@@ -103,78 +141,34 @@ fn write_byte(k: u64, j: usize) -> u8 {
     ((k % 256 * 13 + j as u64 % 256 * 31) % 256) as u8
 }
 
-fn fill_write(bytes: &mut [u8], k: u64) {
-    let mut j: usize = 0;
-    while j < bytes.len() {
-        bytes[j] = write_byte(k, j);
-        j += 1;
+// Returns the write's bytes, and as many more as the longest write has.
+fn write_bytes(k: u64) -> [u8; 257] {
+    let mut bytes = [0; 257];
+    for (j, byte) in bytes.iter_mut().enumerate() {
+        *byte = write_byte(k, j);
     }
+    bytes
 }
 
 fn show_write(rt: &impl Print, answer: Answer) -> io::Result<()> {
     if let Answer::Shown(x) = answer {
-        show::line(rt, b"  wrote", &[x.address, x.size])?;
+        show::line(rt, "  wrote", &[x.address, x.size])?;
     }
     if let Answer::Refused(why) = answer {
-        show::line(rt, b"  refused", &[lines::refusal_number(why)])?;
+        show::line(rt, "  refused", &[lines::refusal_number(why)])?;
     }
     Ok(())
 }
 
-fn copy(
-    rt: &impl Print,
-    s: State,
-    used: &[u32],
-    stop: &[u32],
-    image: &mut [u8],
-    k: u64,
-    address: u64,
-    bytes: &[u8],
-) -> io::Result<()> {
-    let n = at_most(write_length(k), bytes);
-    let answer = filling::copy::copy_from_slice(
-        s,
-        used,
-        stop,
-        image,
-        address,
-        write_offset(k),
-        &bytes[..n],
-    );
+// Tries a write after call number k, and shows its answer.
+fn write(rt: &impl Print, lent: &mut Lent, s: State, k: u64, address: u64) -> io::Result<()> {
+    let bytes = write_bytes(k);
+    let n = at_most(write_length(k), &bytes);
+    let answer = lent.copy(s, address, write_offset(k), &bytes[..n]);
     show_write(rt, answer)
 }
 
-fn write(
-    rt: &impl Print,
-    s: State,
-    used: &[u32],
-    stop: &[u32],
-    image: &mut [u8],
-    k: u64,
-    address: u64,
-) -> io::Result<()> {
-    let mut bytes: [u8; 257] = [0; 257];
-    fill_write(&mut bytes, k);
-    copy(rt, s, used, stop, image, k, address, &bytes)
-}
-
 // ---- lines
-
-fn wide(byte: u8) -> u64
-    ensures { result < 256 }
-{
-    byte as u64
-}
-
-fn hash(bytes: &[u8]) -> u64 {
-    let mut h: u64 = 0;
-    let mut i: usize = 0;
-    while i < bytes.len() {
-        h = (h * 31 + wide(bytes[i])) % 4294967296;
-        i += 1;
-    }
-    h
-}
 
 fn show_answer(rt: &impl Print, answer: Answer) -> io::Result<()> {
     let mut out: [u8; 80] = [0; 80];
@@ -190,58 +184,18 @@ fn show_last(rt: &impl Print, s: State, offset: u64, left: usize) -> io::Result<
 
 // ---- the trace
 
-// Makes a call, and lends it the image's bytes that stand for the arena.
-fn call_lent(s: State, used: &mut [u32], stop: &mut [u32], image: &mut [u8], c: Call) -> Outcome {
-    let n = at_most(s.length, image);
-    call(s, used, stop, &mut image[..n], c)
-}
-
-fn write_lent(
-    rt: &impl Print,
-    s: State,
-    used: &[u32],
-    stop: &[u32],
-    image: &mut [u8],
-    k: u64,
-    address: u64,
-) -> io::Result<()> {
-    let n = at_most(s.length, image);
-    write(rt, s, used, stop, &mut image[..n], k, address)
-}
-
-fn show_lent(rt: &impl Print, s: State, image: &[u8]) -> io::Result<()> {
-    let n = at_most(s.length, image);
-    show::line(rt, b"  image", &[hash(&image[..n])])
-}
-
 // Makes call number k and shows its line; if an allocator exists, tries the write and shows the image's hash.
-fn turn(
-    rt: &impl Print,
-    s: State,
-    used: &mut [u32],
-    stop: &mut [u32],
-    image: &mut [u8],
-    k: u64,
-    c: Call,
-) -> io::Result<State> {
-    let o = call_lent(s, used, stop, image, c);
+fn turn(rt: &impl Print, lent: &mut Lent, s: State, k: u64, c: Call) -> io::Result<State> {
+    let o = lent.call(s, c);
     let answer = o.answer;
     let after = o.state;
     show_answer(rt, answer)?;
-    clear_where_created(answer, image);
+    lent.clear_where_created(answer);
     if after.length != 0 {
-        write_lent(rt, after, used, stop, image, k, write_address(answer, c))?;
-        show_lent(rt, after, image)?;
+        write(rt, lent, after, k, write_address(answer, c))?;
+        show::line(rt, "  image", &[lent.hash(after) as u64])?;
     }
     Ok(after)
-}
-
-fn left(bytes: &[u8], taken: usize) -> usize {
-    if taken < bytes.len() {
-        bytes.len() - taken
-    } else {
-        0
-    }
 }
 
 fn read(bytes: &[u8], taken: usize) -> Result<Record, Unread> {
@@ -251,59 +205,26 @@ fn read(bytes: &[u8], taken: usize) -> Result<Record, Unread> {
     Err(Unread::Cut)
 }
 
-fn play_all(
-    rt: &impl Print,
-    used: &mut [u32],
-    stop: &mut [u32],
-    image: &mut [u8],
-    bytes: &[u8],
-) -> io::Result<()> {
+fn play_all(rt: &impl Print, lent: &mut Lent, bytes: &[u8]) -> io::Result<()> {
     let mut state = state::zero_state();
     let mut taken: usize = 0;
-    let mut k: u64 = 1;
     // bounds the loop: a trace that fits the buffer has fewer records
-    while k < 65536 {
+    for k in 1..65536 {
         let Ok(record) = read(bytes, taken) else {
-            return show_last(rt, state, taken as u64, left(bytes, taken));
+            return show_last(rt, state, taken as u64, bytes.len().saturating_sub(taken));
         };
-        state = turn(rt, state, used, stop, image, k, record.call)?;
-        taken = std::num::wrapping_add_usize(taken, record.length);
-        k += 1;
+        state = turn(rt, lent, state, k, record.call)?;
+        taken = taken.wrapping_add(record.length);
     }
     Ok(())
 }
 
-// Makes a zero image of 1 MiB. The calls refuse it for a longer arena.
-fn zeros() -> [u8; 1048576]
-    ensures { 1048576 ≡ length result }
-{
-    [0; 1048576]
-}
-
-// Reads until the buffer is full or the input ends, and returns how many bytes came.
-fn read_full<R: Read>(source: &mut R, bytes: &mut [u8]) -> io::Result<usize>
-    ensures { IfOk result (λ n. n ≤ length bytes.old) }
-{
-    let mut done: usize = 0;
-    while done < bytes.len() {
-        let more = source.read(&mut bytes[done..])?;
-        if more == 0 {
-            return Ok(done);
-        }
-        done += more;
-    }
-    Ok(done)
-}
-
 fn main(rt: HostRuntime) -> io::Result<()> {
-    let mut used = feed::map_words();
-    let mut stop = feed::map_words();
-    let mut image = zeros();
+    let mut lent = Lent::new();
     let mut bytes = [0u8; 65536];
-    let n = read_full(&mut rt.stdin(), &mut bytes)?;
+    let n = feed::read_full(&mut rt.stdin(), &mut bytes)?;
     if n == bytes.len() {
-        eprintln!(rt; "the trace is too long for this program")?;
-        return Ok(());
+        return eprintln!(rt; "the trace is too long for this program");
     }
-    play_all(&rt, &mut used, &mut stop, &mut image, &bytes[..n])
+    play_all(&rt, &mut lent, &bytes[..n])
 }

@@ -3,7 +3,7 @@
 // is written.
 #![tactic(auto)]
 
-ghost use Rattle.std.specs.Prelude.{◌≡◌, ◌≤◌, length, IfOk};
+ghost use Rattle.std.specs.Prelude.{◌≡◌, length};
 
 use block::Block;
 use records::Call;
@@ -14,34 +14,11 @@ use std::io::Read;
 
 // ---- numbers
 
-// Reads until the buffer is full or the input ends, and returns how many bytes came.
-fn read_full<R: Read>(input: &mut R, bytes: &mut [u8]) -> io::Result<usize>
-    ensures { IfOk result (λ n. n ≤ length bytes.old) }
-{
-    let mut done: usize = 0;
-    while done < bytes.len() {
-        let more = input.read(&mut bytes[done..])?;
-        if more == 0 {
-            return Ok(done);
-        }
-        done += more;
-    }
-    Ok(done)
-}
-
 // Reads eight bytes, the lowest first. Those after the input's end count as 0.
 fn read_u64<R: Read>(input: &mut R) -> io::Result<u64> {
-    let mut bytes: [u8; 8] = [0; 8];
-    read_full(input, &mut bytes)?;
-    let mut n: u64 = 0;
-    for byte in bytes.iter().rev() {
-        n = n << 8 | wide(*byte);
-    }
-    Ok(n)
-}
-
-fn wide(byte: u8) -> u64 {
-    byte as u64
+    let mut bytes = [0; 8];
+    feed::read_full(input, &mut bytes)?;
+    Ok(u64::from_le_bytes(bytes))
 }
 
 // Reads eight bytes, and drops the upper half.
@@ -125,28 +102,27 @@ fn read_block<R: Read>(input: &mut R) -> io::Result<Block> {
 }
 
 // Reads an index, and the entries of `order` and of `blocks` at it.
-fn put_entry<R: Read>(input: &mut R, s: State) -> io::Result<State> {
-    let mut r = s;
+fn put_entry<R: Read>(input: &mut R, mut s: State) -> io::Result<State> {
     let i = read_usize(input)?;
     let age = read_usize(input)?;
     let b = read_block(input)?;
-    if i < 64 {
-        r.order[i] = age;
-        r.blocks[i] = b;
+    if i < state::SLOT_LIMIT {
+        s.order[i] = age;
+        s.blocks[i] = b;
     }
-    Ok(r)
+    Ok(s)
 }
 
 // Reads all words of a map, as runs of equal words: each run's end, and its word.
 fn put_words<R: Read>(input: &mut R, words: &mut [u32]) -> io::Result<()> {
     let mut end: usize = 0;
     let mut word: u32 = 0;
-    for i in 0..words.len() {
+    for (i, put) in words.iter_mut().enumerate() {
         if i >= end {
             end = read_usize(input)?;
             word = read_u32(input)?;
         }
-        words[i] = word;
+        *put = word;
     }
     Ok(())
 }
@@ -166,7 +142,7 @@ fn head_line(rt: &impl Print, s: State) -> io::Result<()> {
         s.live,
         s.count as u64,
     ];
-    show::line(rt, b"record", &numbers)
+    show::line(rt, "record", &numbers)
 }
 
 fn pool_line(rt: &impl Print, q: Pool) -> io::Result<()> {
@@ -177,13 +153,14 @@ fn pool_line(rt: &impl Print, q: Pool) -> io::Result<()> {
         q.area as u64,
         q.used as u64,
     ];
-    show::line(rt, b"pool", &numbers)
+    show::line(rt, "pool", &numbers)
 }
 
 fn show_pools(rt: &impl Print, s: State) -> io::Result<()> {
-    pool_line(rt, s.pools[0])?;
-    pool_line(rt, s.pools[1])?;
-    pool_line(rt, s.pools[2])
+    for q in s.pools {
+        pool_line(rt, q)?;
+    }
+    Ok(())
 }
 
 fn is_zero(age: usize, b: Block) -> bool {
@@ -211,37 +188,26 @@ fn entry_line(rt: &impl Print, i: usize, age: usize, b: Block) -> io::Result<()>
         b.end as u64,
         b.largest as u64,
     ];
-    show::line(rt, b"entry", &numbers)
-}
-
-fn show_entry(rt: &impl Print, i: usize, age: usize, b: Block) -> io::Result<()> {
-    if !is_zero(age, b) {
-        entry_line(rt, i, age, b)?;
-    }
-    Ok(())
+    show::line(rt, "entry", &numbers)
 }
 
 fn show_entries(rt: &impl Print, s: State) -> io::Result<()> {
-    for i in 0..state::SLOT_LIMIT {
-        show_entry(rt, i, s.order[i], s.blocks[i])?;
+    for (i, (age, b)) in s.order.iter().zip(&s.blocks).enumerate() {
+        if !is_zero(*age, *b) {
+            entry_line(rt, i, *age, *b)?;
+        }
     }
     Ok(())
 }
 
-fn word_line(rt: &impl Print, name: &[u8], i: usize, word: u32) -> io::Result<()> {
-    rt.write_all(name)?;
-    println!(rt; " {i} {word:08x}")
-}
-
 // Writes each word that differs from the one before it; the first is compared with 0.
-fn show_words(rt: &impl Print, name: &[u8], words: &[u32]) -> io::Result<()> {
-    let mut before: u32 = 0;
-    for i in 0..words.len() {
-        let word = words[i];
-        if word != before {
-            word_line(rt, name, i, word)?;
+fn show_words(rt: &impl Print, name: &str, words: &[u32]) -> io::Result<()> {
+    let mut before = 0;
+    for (i, word) in words.iter().enumerate() {
+        if *word != before {
+            println!(rt; "{name} {i} {word:08x}")?;
         }
-        before = word;
+        before = *word;
     }
     Ok(())
 }
@@ -280,19 +246,17 @@ fn read_call<R: Read>(input: &mut R, kind: u64) -> io::Result<Call> {
 
 // Returns the state to hand to a call: zeros for a creation. If a creation is refused, `calls` returns the state before it, but a case must
 // go on with the record of zeros that `create` returns.
-fn before(s: State, kind: u64) -> State {
-    if kind == 1 {
-        return state::zero_state();
+fn before(s: State, c: &Call) -> State {
+    match c {
+        Call::Create(_) => state::zero_state(),
+        _ => s,
     }
-    s
 }
 
-fn answer_line(rt: &impl Print, out: &mut [u8], answer: Answer) -> io::Result<()> {
-    if out.len() >= text::LINE {
-        let end = lines::put_answer(out, 0, answer);
-        show::front(rt, out, end)?;
-    }
-    Ok(())
+fn show_answer(rt: &impl Print, answer: Answer) -> io::Result<()> {
+    let mut out = [0; text::LINE];
+    let end = lines::put_answer(&mut out, 0, answer);
+    show::front(rt, &out, end)
 }
 
 fn play_call<R: Read>(
@@ -303,10 +267,9 @@ fn play_call<R: Read>(
     stop: &mut [u32],
     kind: u64,
 ) -> io::Result<State> {
-    let o = calls::call(before(s, kind), used, stop, read_call(input, kind)?);
-    let answer = o.answer;
-    let mut out: [u8; 80] = [0; 80];
-    answer_line(rt, &mut out, answer)?;
+    let c = read_call(input, kind)?;
+    let o = calls::call(before(s, &c), used, stop, c);
+    show_answer(rt, o.answer)?;
     Ok(o.state)
 }
 
@@ -314,8 +277,8 @@ fn show_all(rt: &impl Print, s: State, used: &[u32], stop: &[u32]) -> io::Result
     head_line(rt, s)?;
     show_pools(rt, s)?;
     show_entries(rt, s)?;
-    show_words(rt, b"used", used)?;
-    show_words(rt, b"stop", stop)
+    show_words(rt, "used", used)?;
+    show_words(rt, "stop", stop)
 }
 
 // Plays a step: makes a call, puts an entry into the lists, or shows all that isn't zero.
@@ -327,14 +290,14 @@ fn play<R: Read>(
     stop: &mut [u32],
     kind: u64,
 ) -> io::Result<State> {
-    if kind == 8 {
-        return put_entry(input, s);
+    match kind {
+        8 => put_entry(input, s),
+        9 => {
+            show_all(rt, s, used, stop)?;
+            Ok(s)
+        }
+        _ => play_call(rt, input, s, used, stop, kind),
     }
-    if kind == 9 {
-        show_all(rt, s, used, stop)?;
-        return Ok(s);
-    }
-    play_call(rt, input, s, used, stop, kind)
 }
 
 // Bounds the loops, so that they end whatever the input is.
@@ -368,10 +331,8 @@ fn play_lent<R: Read>(
 ) -> io::Result<()> {
     let u = read_usize(input)?;
     let t = read_usize(input)?;
-    if u <= used.len() {
-        if t <= stop.len() {
-            play_steps(rt, input, &mut used[..u], &mut stop[..t])?;
-        }
+    if u <= used.len() && t <= stop.len() {
+        play_steps(rt, input, &mut used[..u], &mut stop[..t])?;
     }
     Ok(())
 }
@@ -385,8 +346,8 @@ fn map_words() -> [u32; 262144]
 
 // Copies the case's label, a line of 64 bytes, to the output.
 fn label_line<R: Read>(rt: &impl Print, input: &mut R) -> io::Result<()> {
-    let mut bytes: [u8; 64] = [0; 64];
-    let n = read_full(input, &mut bytes)?;
+    let mut bytes = [0; 64];
+    let n = feed::read_full(input, &mut bytes)?;
     rt.write_all(&bytes[..n])
 }
 
