@@ -2,156 +2,80 @@
 // answer; for the rest, what a map kept bit by bit and a search unit by unit find.
 #![tactic(auto)]
 
-ghost use Rattle.std.specs.Prelude.{◌≡◌, length};
+ghost use Rattle.std.specs.Prelude.{◌<◌};
 
 use runs::ranges::BitVectorRangeIterator;
-use std::io;
+use std::{fmt, io};
 
-fn number(rt: &impl Print, n: u64) -> io::Result<()> {
-    print!(rt; " {n}")
-}
+// Words, each with a space before it.
+#[derive(Clone, Copy)]
+struct Words<'a>(&'a [u32]);
 
-fn line_end(rt: &impl Print) -> io::Result<()> {
-    print!(rt; "\n")
-}
-
-fn word(rt: &impl Print, w: u32) -> io::Result<()> {
-    number(rt, w as u64)
-}
-
-// Writes ` W0 W1 ..` and the line's end.
-fn words(rt: &impl Print, map: &[u32]) -> io::Result<()> {
-    for w in map {
-        word(rt, *w)?;
+impl fmt::Display for Words<'_> {
+    fn fmt<W: fmt::Write>(&self, f: &mut fmt::Formatter<W>) -> fmt::Result {
+        for word in self.0 {
+            write!(f, " {word}")?;
+        }
+        Ok(())
     }
-    line_end(rt)
 }
 
 // ---- bits
 
-fn pattern(p: usize) -> [u32; 3]
-    ensures { 3 ≡ length result }
-{
-    if p == 0 {
-        return [0, 0, 0];
-    }
-    if p == 1 {
-        return [4294967295, 4294967295, 4294967295];
-    }
-    if p == 2 {
-        return [2863311530, 1431655765, 4042322160];
-    }
-    [2147483648, 1, 2147483649]
-}
+const PATTERNS: [[u32; 3]; 4] = [
+    [0, 0, 0],
+    [4294967295, 4294967295, 4294967295],
+    [2863311530, 1431655765, 4042322160],
+    [2147483648, 1, 2147483649],
+];
 
-// Writes ` P I`.
-fn place(rt: &impl Print, p: usize, index: usize) -> io::Result<()> {
-    number(rt, p as u64)?;
-    number(rt, index as u64)
-}
-
-// Writes `fill P I C W0 W1 W2`, or `clear ..`, if the map has that many bits.
-fn range(rt: &impl Print, p: usize, index: usize, count: usize, value: bool) -> io::Result<()> {
-    if index <= 96 {
-        if count <= 96 - index {
-            let mut map = pattern(p);
-            if value {
-                print!(rt; "fill")?;
-            } else {
-                print!(rt; "clear")?;
-            }
-            place(rt, p, index)?;
-            number(rt, count as u64)?;
-            if value {
-                bits::fill::bit_vector_fill(&mut map, index, count);
-                words(rt, &map)?;
-            } else {
-                bits::fill::bit_vector_clear(&mut map, index, count);
-                words(rt, &map)?;
-            }
-        }
+// Writes `fill P I C W0 W1 W2` and `clear P I C W0 W1 W2` of map number `p`, if it has that many bits.
+fn range(rt: &impl Print, p: usize, map: [u32; 3], index: usize, count: usize) -> io::Result<()> {
+    if index <= 96 && count <= 96 - index {
+        let mut filled = map;
+        bits::fill::bit_vector_fill(&mut filled, index, count);
+        println!(rt; "fill {p} {index} {count}{}", Words(&filled))?;
+        let mut cleared = map;
+        bits::fill::bit_vector_clear(&mut cleared, index, count);
+        println!(rt; "clear {p} {index} {count}{}", Words(&cleared))?;
     }
     Ok(())
 }
 
-fn fill_and_clear(rt: &impl Print, p: usize, index: usize, count: usize) -> io::Result<()> {
-    range(rt, p, index, count, true)?;
-    range(rt, p, index, count, false)
-}
-
-fn counts(rt: &impl Print, p: usize, index: usize) -> io::Result<()> {
-    for count in [0, 1, 2, 31, 32, 33, 64, 65, 96] {
-        fill_and_clear(rt, p, index, count)?;
-    }
-    Ok(())
-}
-
-fn ranges(rt: &impl Print, p: usize) -> io::Result<()> {
+fn ranges(rt: &impl Print, p: usize, map: [u32; 3]) -> io::Result<()> {
     for index in [0, 1, 15, 30, 31, 32, 33, 63, 64, 65, 94, 95] {
-        counts(rt, p, index)?;
-    }
-    Ok(())
-}
-
-// Writes `get P I B`.
-fn get(rt: &impl Print, p: usize, index: usize) -> io::Result<()> {
-    if index < 96 {
-        print!(rt; "get")?;
-        place(rt, p, index)?;
-        let words = pattern(p);
-        if bits::bit_vector_get_bit(&words, index) {
-            number(rt, 1)?;
-        } else {
-            number(rt, 0)?;
+        for count in [0, 1, 2, 31, 32, 33, 64, 65, 96] {
+            range(rt, p, map, index, count)?;
         }
-        line_end(rt)?;
     }
     Ok(())
 }
 
-// Writes `set P I W0 W1 W2`, or `unset ..`.
-fn put(rt: &impl Print, p: usize, index: usize, value: bool) -> io::Result<()> {
+// Returns the map with that bit so.
+fn put(mut map: [u32; 3], index: usize, value: bool) -> [u32; 3]
+    requires { index < 96 }
+{
+    bits::bit_vector_set_bit(&mut map, index, value);
+    map
+}
+
+// Writes `get P I B`, `set P I W0 W1 W2`, `unset P I W0 W1 W2` and `first P I ONE ZERO`, the first bits from `index` on that are 1 and 0.
+fn single(rt: &impl Print, p: usize, map: [u32; 3], index: usize) -> io::Result<()> {
     if index < 96 {
-        let mut map = pattern(p);
-        bits::bit_vector_set_bit(&mut map, index, value);
-        if value {
-            print!(rt; "set")?;
-        } else {
-            print!(rt; "unset")?;
-        }
-        place(rt, p, index)?;
-        words(rt, &map)?;
+        let bit = bits::bit_vector_get_bit(&map, index);
+        println!(rt; "get {p} {index} {}", bit as u8)?;
+        println!(rt; "set {p} {index}{}", Words(&put(map, index, true)))?;
+        println!(rt; "unset {p} {index}{}", Words(&put(map, index, false)))?;
+        let one = bits::index::bit_vector_index_of(&map, index, true);
+        let zero = bits::index::bit_vector_index_of(&map, index, false);
+        println!(rt; "first {p} {index} {one} {zero}")?;
     }
     Ok(())
 }
 
-// Writes the first bit from `index` on that is `value`.
-fn index_of(rt: &impl Print, p: usize, index: usize, value: bool) -> io::Result<()> {
-    if index < 96 {
-        let map = pattern(p);
-        number(
-            rt,
-            bits::index::bit_vector_index_of(&map, index, value) as u64,
-        )?;
-    }
-    Ok(())
-}
-
-// Writes the lines on one bit, and then `first P I ONE ZERO`.
-fn single(rt: &impl Print, p: usize, index: usize) -> io::Result<()> {
-    get(rt, p, index)?;
-    put(rt, p, index, true)?;
-    put(rt, p, index, false)?;
-    print!(rt; "first")?;
-    place(rt, p, index)?;
-    index_of(rt, p, index, true)?;
-    index_of(rt, p, index, false)?;
-    line_end(rt)
-}
-
-fn singles(rt: &impl Print, p: usize) -> io::Result<()> {
+fn singles(rt: &impl Print, p: usize, map: [u32; 3]) -> io::Result<()> {
     for index in [0, 1, 30, 31, 32, 33, 63, 64, 65, 94, 95] {
-        single(rt, p, index)?;
+        single(rt, p, map, index)?;
     }
     Ok(())
 }
@@ -167,22 +91,15 @@ fn change(
     at: usize,
     n: usize,
 ) -> io::Result<()> {
-    if slot < 3 {
-        if at <= 64 {
-            if n <= 64 - at {
-                if value {
-                    slots::mark(map, slot, 2, at, n);
-                    print!(rt; "mark")?;
-                } else {
-                    slots::unmark(map, slot, 2, at, n);
-                    print!(rt; "unmark")?;
-                }
-                number(rt, slot as u64)?;
-                number(rt, at as u64)?;
-                number(rt, n as u64)?;
-                words(rt, map)?;
-            }
-        }
+    if slot < 3 && at <= 64 && n <= 64 - at {
+        let word = if value {
+            slots::mark(map, slot, 2, at, n);
+            "mark"
+        } else {
+            slots::unmark(map, slot, 2, at, n);
+            "unmark"
+        };
+        println!(rt; "{word} {slot} {at} {n}{}", Words(map))?;
     }
     Ok(())
 }
@@ -190,9 +107,7 @@ fn change(
 // Writes `slot SLOT W0 W1`.
 fn part(rt: &impl Print, map: &[u32; 6], slot: usize) -> io::Result<()> {
     if slot < 3 {
-        print!(rt; "slot")?;
-        number(rt, slot as u64)?;
-        words(rt, slots::slot(map, slot, 2))?;
+        println!(rt; "slot {slot}{}", Words(slots::slot(map, slot, 2)))?;
     }
     Ok(())
 }
@@ -200,102 +115,76 @@ fn part(rt: &impl Print, map: &[u32; 6], slot: usize) -> io::Result<()> {
 // Marks and unmarks units of a map whose words are all `word` at first, and then writes each slot.
 fn history(rt: &impl Print, word: u32) -> io::Result<()> {
     let mut map = [word; 6];
-    change(rt, &mut map, true, 0, 0, 1)?;
-    change(rt, &mut map, true, 0, 31, 2)?;
-    change(rt, &mut map, true, 1, 0, 64)?;
-    change(rt, &mut map, true, 2, 5, 40)?;
-    change(rt, &mut map, false, 1, 30, 4)?;
-    change(rt, &mut map, false, 1, 63, 1)?;
-    change(rt, &mut map, false, 2, 6, 37)?;
-    change(rt, &mut map, true, 2, 63, 1)?;
-    change(rt, &mut map, true, 2, 64, 0)?;
-    change(rt, &mut map, false, 0, 32, 1)?;
-    change(rt, &mut map, false, 0, 0, 64)?;
-    change(rt, &mut map, true, 0, 63, 1)?;
-    change(rt, &mut map, true, 1, 33, 1)?;
-    change(rt, &mut map, false, 2, 0, 0)?;
-    change(rt, &mut map, false, 1, 0, 32)?;
-    part(rt, &map, 0)?;
-    part(rt, &map, 1)?;
-    part(rt, &map, 2)
+    for (value, slot, at, n) in [
+        (true, 0, 0, 1),
+        (true, 0, 31, 2),
+        (true, 1, 0, 64),
+        (true, 2, 5, 40),
+        (false, 1, 30, 4),
+        (false, 1, 63, 1),
+        (false, 2, 6, 37),
+        (true, 2, 63, 1),
+        (true, 2, 64, 0),
+        (false, 0, 32, 1),
+        (false, 0, 0, 64),
+        (true, 0, 63, 1),
+        (true, 1, 33, 1),
+        (false, 2, 0, 0),
+        (false, 1, 0, 32),
+    ] {
+        change(rt, &mut map, value, slot, at, n)?;
+    }
+    for slot in 0..3 {
+        part(rt, &map, slot)?;
+    }
+    Ok(())
 }
 
 // ---- runs
 
-// Returns map number `p`: a one is a used unit.
-fn used(p: usize) -> [u32; 3]
-    ensures { 3 ≡ length result }
-{
+// A one is a used unit.
+const USED: [[u32; 3]; 8] = [
     // all free
-    if p == 0 {
-        return [0, 0, 0];
-    }
+    [0, 0, 0],
     // all used
-    if p == 1 {
-        return [0xffff_ffff, 0xffff_ffff, 0xffff_ffff];
-    }
+    [0xffff_ffff, 0xffff_ffff, 0xffff_ffff],
     // every second used
-    if p == 2 {
-        return [0xaaaa_aaaa, 0xaaaa_aaaa, 0xaaaa_aaaa];
-    }
+    [0xaaaa_aaaa, 0xaaaa_aaaa, 0xaaaa_aaaa],
     // only 8 to 15 free
-    if p == 3 {
-        return [0xffff_00ff, 0xffff_ffff, 0xffff_ffff];
-    }
+    [0xffff_00ff, 0xffff_ffff, 0xffff_ffff],
     // only 8 to 11 free
-    if p == 4 {
-        return [0xffff_f0ff, 0xffff_ffff, 0xffff_ffff];
-    }
+    [0xffff_f0ff, 0xffff_ffff, 0xffff_ffff],
     // only 30 to 69 free, over both borders of words
-    if p == 5 {
-        return [0x3fff_ffff, 0, 0xffff_ffc0];
-    }
+    [0x3fff_ffff, 0, 0xffff_ffc0],
     // only 0 to 3, 31 and 32, 60 to 66 and 95 free
-    if p == 6 {
-        return [0x7fff_fff0, 0x0fff_fffe, 0x7fff_fff8];
-    }
+    [0x7fff_fff0, 0x0fff_fffe, 0x7fff_fff8],
     // of no order
-    [0x9e37_79b9, 0x7f4a_7c15, 0xf39c_c060]
-}
+    [0x9e37_79b9, 0x7f4a_7c15, 0xf39c_c060],
+];
 
-// Writes ` P S E`.
-fn window(rt: &impl Print, p: usize, start: usize, end: usize) -> io::Result<()> {
-    number(rt, p as u64)?;
-    number(rt, start as u64)?;
-    number(rt, end as u64)
-}
-
+// Writes ` at I`, ` tight FIRST LAST LONGEST` or ` full`, and the line's end.
 fn found(rt: &impl Print, answer: runs::Search) -> io::Result<()> {
     match answer {
-        runs::Search::At(i) => {
-            print!(rt; " at")?;
-            number(rt, i as u64)?;
-        }
-        runs::Search::Tight(first, last, longest) => {
-            print!(rt; " tight")?;
-            number(rt, first as u64)?;
-            number(rt, last as u64)?;
-            number(rt, longest as u64)?;
-        }
-        runs::Search::Full => {
-            print!(rt; " full")?;
-        }
+        runs::Search::At(i) => println!(rt; " at {i}"),
+        runs::Search::Tight(first, last, longest) => println!(rt;
+            " tight {first} {last} {longest}"
+        ),
+        runs::Search::Full => println!(rt; " full"),
     }
-    line_end(rt)
 }
 
-// Writes `search P S E N`, and ` at I`, ` tight FIRST LAST LONGEST` or ` full`.
-fn search(rt: &impl Print, p: usize, start: usize, end: usize, n: usize) -> io::Result<()> {
-    if start <= 96 {
-        if end <= 96 {
-            if 0 < n {
-                print!(rt; "search")?;
-                window(rt, p, start, end)?;
-                number(rt, n as u64)?;
-                let map = used(p);
-                found(rt, runs::window::search_window(&map, start, end, n))?;
-            }
-        }
+// Writes `search P S E N`, and what is found.
+fn search(
+    rt: &impl Print,
+    p: usize,
+    map: &[u32; 3],
+    start: usize,
+    end: usize,
+    n: usize,
+) -> io::Result<()> {
+    if start <= 96 && end <= 96 && 0 < n {
+        print!(rt; "search {p} {start} {end} {n}")?;
+        found(rt, runs::window::search_window(map, start, end, n))?;
     }
     Ok(())
 }
@@ -315,46 +204,41 @@ fn walk(rt: &impl Print, words: &[u32], start: usize, end: usize) -> io::Result<
 }
 
 // Writes `runs P S E`, and ` s-e` for each run.
-fn walked(rt: &impl Print, p: usize, start: usize, end: usize) -> io::Result<()> {
-    print!(rt; "runs")?;
-    window(rt, p, start, end)?;
-    let map = used(p);
-    walk(rt, &map, start, end)?;
-    line_end(rt)
+fn walked(rt: &impl Print, p: usize, map: &[u32; 3], start: usize, end: usize) -> io::Result<()> {
+    print!(rt; "runs {p} {start} {end}")?;
+    walk(rt, map, start, end)?;
+    println!(rt)
 }
 
-fn both(rt: &impl Print, p: usize, start: usize, end: usize) -> io::Result<()> {
-    search(rt, p, start, end, 1)?;
-    search(rt, p, start, end, 5)?;
-    search(rt, p, start, end, 33)?;
-    walked(rt, p, start, end)
-}
-
-fn ends(rt: &impl Print, p: usize, start: usize) -> io::Result<()> {
-    for end in [0, 1, 4, 8, 12, 31, 32, 33, 40, 63, 64, 65, 95, 96] {
-        both(rt, p, start, end)?;
+fn both(rt: &impl Print, p: usize, map: &[u32; 3], start: usize, end: usize) -> io::Result<()> {
+    for n in [1, 5, 33] {
+        search(rt, p, map, start, end, n)?;
     }
-    Ok(())
+    walked(rt, p, map, start, end)
 }
 
-fn starts(rt: &impl Print, p: usize) -> io::Result<()> {
-    for start in [0, 1, 4, 8, 12, 31, 32, 33, 40, 63, 64, 65, 95, 96] {
-        ends(rt, p, start)?;
+// Searches and walks in each window between two of these units.
+fn windows(rt: &impl Print, p: usize, map: &[u32; 3]) -> io::Result<()> {
+    let edges = [0, 1, 4, 8, 12, 31, 32, 33, 40, 63, 64, 65, 95, 96];
+    for start in edges {
+        for end in edges {
+            both(rt, p, map, start, end)?;
+        }
     }
     Ok(())
 }
 
 fn main(rt: HostRuntime) -> io::Result<()> {
-    for p in [0, 1, 2, 3] {
-        ranges(&rt, p)?;
+    for (p, map) in PATTERNS.iter().enumerate() {
+        ranges(&rt, p, *map)?;
     }
-    for p in [0, 1, 2, 3] {
-        singles(&rt, p)?;
+    for (p, map) in PATTERNS.iter().enumerate() {
+        singles(&rt, p, *map)?;
     }
     history(&rt, 0)?;
     history(&rt, 4294967295)?;
-    for p in [0, 1, 2, 3, 4, 5, 6, 7] {
-        starts(&rt, p)?;
+    for (p, map) in USED.iter().enumerate() {
+        windows(&rt, p, map)?;
     }
     Ok(())
 }

@@ -2,26 +2,18 @@
 // and bytes, what plain arithmetic gives; for sizes, what document 01's rules give by plain arithmetic.
 #![tactic(auto)]
 
-ghost use Rattle.std.specs.Prelude.{◌≡◌, ◌*◌, ◌≤◌, ◌<◌, ◌^◌};
+ghost use Rattle.std.specs.Prelude.{◌≡◌, ◌*◌, ◌≤◌};
 
 use std::io;
-
-fn number(rt: &impl Print, n: u64) -> io::Result<()> {
-    print!(rt; " {n}")
-}
-
-fn line_end(rt: &impl Print) -> io::Result<()> {
-    print!(rt; "\n")
-}
 
 // Writes `X A DOWN UP`.
 fn aligned(rt: &impl Print, x: u64, alignment: u64) -> io::Result<()> {
     if 0 < alignment {
-        print!(rt; "{x}")?;
-        number(rt, alignment)?;
-        number(rt, numbers::align_down(x, alignment))?;
-        number(rt, numbers::align_up(x, alignment))?;
-        line_end(rt)?;
+        println!(rt;
+            "{x} {alignment} {} {}",
+            numbers::align_down(x, alignment),
+            numbers::align_up(x, alignment)
+        )?;
     }
     Ok(())
 }
@@ -53,30 +45,17 @@ fn bytes_of(n: u32, unit: u64) -> u64
 // Writes `bytes N UNIT SIZE`, if a unit has at most 1,024 bytes.
 fn bytes(rt: &impl Print, n: u32, unit: u64) -> io::Result<()> {
     if unit <= 1024 {
-        print!(rt; "bytes")?;
-        number(rt, n as u64)?;
-        number(rt, unit)?;
-        number(rt, bytes_of(n, unit))?;
-        line_end(rt)?;
+        println!(rt; "bytes {n} {unit} {}", bytes_of(n, unit))?;
     }
     Ok(())
 }
 
 // Writes `units SIZE UNIT N` and those units' bytes, if a unit has at most 1,024 bytes and N fits 32 bits.
 fn units(rt: &impl Print, size: u64, unit: u64) -> io::Result<()> {
-    if 0 < unit {
-        if unit <= 1024 {
-            let most = 4294967295 * unit;
-            if size <= most {
-                let n = numbers::area_size_from_byte_size(size, unit);
-                print!(rt; "units")?;
-                number(rt, size)?;
-                number(rt, unit)?;
-                number(rt, n as u64)?;
-                line_end(rt)?;
-                bytes(rt, n, unit)?;
-            }
-        }
+    if 0 < unit && unit <= 1024 && size <= 4294967295 * unit {
+        let n = numbers::area_size_from_byte_size(size, unit);
+        println!(rt; "units {size} {unit} {n}")?;
+        bytes(rt, n, unit)?;
     }
     Ok(())
 }
@@ -90,30 +69,25 @@ fn units_of(rt: &impl Print, size: u64) -> io::Result<()> {
 
 // Writes `granularity ASKED G`.
 fn granularity(rt: &impl Print, asked: u32) -> io::Result<()> {
-    print!(rt; "granularity")?;
-    number(rt, asked as u64)?;
-    number(rt, sizes::limits::granularity_in_force(asked))?;
-    line_end(rt)
+    println!(rt;
+        "granularity {asked} {}",
+        sizes::limits::granularity_in_force(asked)
+    )
 }
 
 // Writes `base ASKED SIZE`.
 fn base(rt: &impl Print, asked: u32) -> io::Result<()> {
-    print!(rt; "base")?;
-    number(rt, asked as u64)?;
-    number(rt, sizes::limits::base_size_in_force(asked))?;
-    line_end(rt)
+    println!(rt; "base {asked} {}", sizes::limits::base_size_in_force(asked))
 }
 
 // Writes ` to SIZE`, or ` refused N`.
 fn answer(rt: &impl Print, r: Result<u64, sizes::SizeError>) -> io::Result<()> {
     match r {
         Ok(size) => {
-            print!(rt; " to")?;
-            number(rt, size)
+            print!(rt; " to {size}")
         }
         Err(why) => {
-            print!(rt; " refused")?;
-            number(rt, why as u64)
+            print!(rt; " refused {}", why as u64)
         }
     }
 }
@@ -121,11 +95,9 @@ fn answer(rt: &impl Print, r: Result<u64, sizes::SizeError>) -> io::Result<()> {
 // Writes `round SIZE G to ROUNDED`, or `round SIZE G refused N`.
 fn round(rt: &impl Print, size: u64, granularity: u64) -> io::Result<()> {
     if 0 < granularity {
-        print!(rt; "round")?;
-        number(rt, size)?;
-        number(rt, granularity)?;
+        print!(rt; "round {size} {granularity}")?;
         answer(rt, sizes::round_size(size, granularity))?;
-        line_end(rt)?;
+        println!(rt)?;
     }
     Ok(())
 }
@@ -137,57 +109,34 @@ fn rounds(rt: &impl Print, size: u64) -> io::Result<()> {
     Ok(())
 }
 
-// A size's pool at granularity 64: out of three, and out of one.
-#[derive(Drop)]
-struct Pools {
-    of_three: usize,
-    of_one: usize,
-}
-
-fn pools_of(size: u64) -> Pools
-    requires { size < 2 ^ 32 }
-{
-    Pools {
-        of_three: sizes::size_to_pool_id(size, 64, 3),
-        of_one: sizes::size_to_pool_id(size, 64, 1),
-    }
-}
-
-// Writes `pool SIZE OF_THREE OF_ONE`.
+// Writes `pool SIZE OF_THREE OF_ONE`: the size's pool at granularity 64, out of three and out of one.
+#[tactic(auto, unfolding(sizes::specs::Limits::is_granularity))]
 fn pool(rt: &impl Print, size: u64) -> io::Result<()> {
     if size < 4294967296 {
-        print!(rt; "pool")?;
-        number(rt, size)?;
-        let pools = pools_of(size);
-        number(rt, pools.of_three as u64)?;
-        number(rt, pools.of_one as u64)?;
-        line_end(rt)?;
+        println!(rt;
+            "pool {size} {} {}",
+            sizes::size_to_pool_id(size, 64, 3),
+            sizes::size_to_pool_id(size, 64, 1)
+        )?;
     }
     Ok(())
 }
 
 // Writes the pools of the sizes up to 2,048 bytes, in steps of 64.
 fn every_pool(rt: &impl Print) -> io::Result<()> {
-    let mut size: u64 = 64;
-    while size <= 2048 {
-        pool(rt, size)?;
-        size += 64;
+    for units in 1..=32 {
+        pool(rt, units * 64)?;
     }
     Ok(())
 }
 
 // Writes `ideal NEWEST REQUEST SIZE`.
 fn ideal(rt: &impl Print, newest: u64, size: u64) -> io::Result<()> {
-    if 0 < newest {
-        if newest <= 134217728 {
-            if size < 4294967296 {
-                print!(rt; "ideal")?;
-                number(rt, newest)?;
-                number(rt, size)?;
-                number(rt, sizes::calculate_ideal_block_size(newest, size))?;
-                line_end(rt)?;
-            }
-        }
+    if 0 < newest && newest <= 134217728 && size < 4294967296 {
+        println!(rt;
+            "ideal {newest} {size} {}",
+            sizes::calculate_ideal_block_size(newest, size)
+        )?;
     }
     Ok(())
 }
