@@ -259,44 +259,38 @@ fn show_answer(rt: &impl Print, answer: Answer) -> io::Result<()> {
     show::front(rt, &out, end)
 }
 
-fn play_call<R: Read>(
-    rt: &impl Print,
-    input: &mut R,
-    s: State,
-    used: &mut [u32],
-    stop: &mut [u32],
-    kind: u64,
-) -> io::Result<State> {
-    let c = read_call(input, kind)?;
-    let o = calls::call(before(s, &c), used, stop, c);
-    show_answer(rt, o.answer)?;
-    Ok(o.state)
+// A case's record, and the words that its calls are lent.
+#[derive(Drop)]
+struct Case<'a> {
+    state: State,
+    used: &'a mut [u32],
+    stop: &'a mut [u32],
 }
 
-fn show_all(rt: &impl Print, s: State, used: &[u32], stop: &[u32]) -> io::Result<()> {
-    head_line(rt, s)?;
-    show_pools(rt, s)?;
-    show_entries(rt, s)?;
-    show_words(rt, "used", used)?;
-    show_words(rt, "stop", stop)
-}
+impl Case<'_> {
+    fn make<R: Read>(&mut self, rt: &impl Print, input: &mut R, kind: u64) -> io::Result<()> {
+        let c = read_call(input, kind)?;
+        let o = calls::call(before(self.state, &c), self.used, self.stop, c);
+        self.state = o.state;
+        show_answer(rt, o.answer)
+    }
 
-// Plays a step: makes a call, puts an entry into the lists, or shows all that isn't zero.
-fn play<R: Read>(
-    rt: &impl Print,
-    input: &mut R,
-    s: State,
-    used: &mut [u32],
-    stop: &mut [u32],
-    kind: u64,
-) -> io::Result<State> {
-    match kind {
-        8 => put_entry(input, s),
-        9 => {
-            show_all(rt, s, used, stop)?;
-            Ok(s)
+    fn show(&self, rt: &impl Print) -> io::Result<()> {
+        head_line(rt, self.state)?;
+        show_pools(rt, self.state)?;
+        show_entries(rt, self.state)?;
+        show_words(rt, "used", self.used)?;
+        show_words(rt, "stop", self.stop)
+    }
+
+    // Plays a step: makes a call, puts an entry into the lists, or shows all that isn't zero.
+    fn play<R: Read>(&mut self, rt: &impl Print, input: &mut R, kind: u64) -> io::Result<()> {
+        match kind {
+            8 => self.state = put_entry(input, self.state)?,
+            9 => self.show(rt)?,
+            _ => self.make(rt, input, kind)?,
         }
-        _ => play_call(rt, input, s, used, stop, kind),
+        Ok(())
     }
 }
 
@@ -311,13 +305,14 @@ fn play_steps<R: Read>(
 ) -> io::Result<()> {
     put_words(input, used)?;
     put_words(input, stop)?;
-    let mut s = read_state(input)?;
+    let state = read_state(input)?;
+    let mut case = Case { state, used, stop };
     for _ in 0..TURNS {
         let kind = read_u64(input)?;
         if kind == 0 {
             return Ok(());
         }
-        s = play(rt, input, s, used, stop, kind)?;
+        case.play(rt, input, kind)?;
     }
     Ok(())
 }
