@@ -30,8 +30,9 @@ use Rattle.state.specs.Find.{lowest_slot, lowest_place}
 use Rattle.shape_facts.proofs.Facts.{unit_g, pool_3}
 use Rattle.shape_facts.proofs.Search.{Left, Place as PlaceIn}
 use Rattle.shape_facts.proofs.Pool.{whole, units_kept}
-use Rattle.machine.specs.Turn.{Turn, number, span, unit_of}
+use Rattle.machine.specs.Turn.{Turn, span, unit_of}
 use Rattle.machine.specs.Alloc.{pool_for, units_for, search_for, new_size, alloc_marked, alloc_made, hit_at}
+use Rattle.state.specs.Outcome.{number}
 use Rattle.machine.specs.Machine.{alloc, step}
 use Rattle.machine.specs.When.{When}
 use Rattle.machine.proofs.Searched.{search_other, search_slot, search_place, search_newest}

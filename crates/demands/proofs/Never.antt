@@ -13,7 +13,8 @@ use Rattle.state.specs.declared.Refusal.TheVariants.{InvalidArgument, TooLarge, 
 use Rattle.state.specs.declared.Answer.{Answer}
 use Rattle.state.specs.declared.Answer.TheVariants.{Created, Granted, Released, Shrunk, Shown, Reset, Refused}
 use Rattle.state.specs.Shape.{good_shape}
-use Rattle.machine.specs.Turn.{Turn, number}
+use Rattle.state.specs.Outcome.{number}
+use Rattle.machine.specs.Turn.{Turn}
 use Rattle.machine.specs.Alloc.{alloc_turn}
 use Rattle.machine.specs.Reset.{reset_turn}
 use Rattle.machine.specs.Release.{release_turn}

@@ -155,7 +155,7 @@ fn show_write(rt: &impl Print, answer: Answer) -> io::Result<()> {
         show::line(rt, "  wrote", &[x.address, x.size])?;
     }
     if let Answer::Refused(why) = answer {
-        show::line(rt, "  refused", &[lines::refusal_number(why)])?;
+        show::line(rt, "  refused", &[u64::from(why)])?;
     }
     Ok(())
 }

@@ -4,7 +4,7 @@ use native.Mathlib.Omega.{arith}
 use lib.ListN.{length, length-append}
 use Rattle.state.specs.declared.Answer.{Answer}
 use Rattle.state.specs.declared.Answer.TheVariants.{Created, Granted, Released, Shrunk, Shown, Reset, Refused}
-use Rattle.machine.specs.Turn.{number}
+use Rattle.state.specs.Outcome.{number}
 use Rattle.text.proofs.Digits.{most}
 use Rattle.lines.specs.Lines.{answer_line}
 

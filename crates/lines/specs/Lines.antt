@@ -2,7 +2,7 @@
 use Rattle.std.specs.Prelude.{ℕ, List, [], ◌∷◌}
 use Rattle.state.specs.declared.Answer.{Answer}
 use Rattle.state.specs.declared.Answer.TheVariants.{Created, Granted, Released, Shrunk, Shown, Reset, Refused}
-use Rattle.machine.specs.Turn.{number}
+use Rattle.state.specs.Outcome.{number}
 use Rattle.text.specs.Line.{line}
 
 -- ---- the answer words, as spelled in document 01

@@ -3,26 +3,12 @@
 #![tactic(auto)]
 
 ghost use Rattle.std.specs.Prelude.{◌≡◌, [], ◌∷◌, ◌+◌, ◌≤◌, length};
-ghost use Rattle.machine.specs.Turn.{number};
 ghost use Rattle.text.specs.Line.{line};
 ghost use Rattle.text.specs.Put.{Puts};
 ghost use Rattle.lines.specs.Lines.{answer_line};
 ghost use Rattle.lines.specs.Last.{used_units, end_line, bad_line, Finishes};
 
-use state::{Answer, Refusal, Span, State};
-
-pub fn refusal_number(why: Refusal) -> u64
-    ensures { result ≡ number why }
-{
-    match why {
-        Refusal::InvalidArgument => 1,
-        Refusal::TooLarge => 2,
-        Refusal::InvalidState => 3,
-        Refusal::NoMapping => 4,
-        Refusal::BadShape => 5,
-        Refusal::Damaged => 6,
-    }
-}
+use state::{Answer, Span, State};
 
 fn put_span(out: &mut [u8], at: usize, word: &[u8], x: Span) -> usize
     requires room { at + 80 ≤ length out.old }
@@ -49,7 +35,7 @@ pub fn put_answer(out: &mut [u8], at: usize, answer: Answer) -> usize
         Answer::Released(x) => put_span(out, at, b"released", x),
         Answer::Shrunk(x) => put_span(out, at, b"shrunk", x),
         Answer::Reset => text::put_line(out, at, b"reset", &[]),
-        Answer::Refused(why) => text::put_line(out, at, b"refused", &[refusal_number(why)]),
+        Answer::Refused(why) => text::put_line(out, at, b"refused", &[u64::from(why)]),
     }
 }
 

@@ -32,10 +32,11 @@ use Rattle.state.specs.Shape.{good_shape, bad_shape}
 use Rattle.state.specs.Change.{removed}
 use Rattle.state.specs.Find.{least, lookup, slot_free, lowest_slot, place_free, placed, lowest_place}
 use Rattle.state.proofs.Find.{Least, least_of}
-use Rattle.machine.specs.Turn.{Turn, turn, number, refuse, span, put_pool, with_live, with_counts, unit_of, clear_slot}
+use Rattle.machine.specs.Turn.{Turn, turn, refuse, span, put_pool, with_live, with_counts, unit_of, clear_slot}
 use Rattle.state.specs.declared.Asked.{Asked}
 use Rattle.machine.specs.Create.{slots_of, grantable, granted, create_turn}
 use Rattle.machine.specs.Alloc.{pool_for, units_for, search_for, new_size, alloc_marked, alloc_made, alloc_placed, alloc_searched, alloc_rounded, alloc_turn, hit_at}
+use Rattle.state.specs.Outcome.{number}
 use Rattle.machine.specs.Span.{held_in, query_held, query_found, query_turn}
 use Rattle.machine.specs.Release.{less_used, settle, release_units, release_held, release_found, release_turn}
 use Rattle.machine.specs.Shrink.{shrink_tail, shrink_units, shrink_held, shrink_found, shrink_turn}

@@ -7,7 +7,8 @@ use Rattle.sizes.specs.Sizes.{rounded}
 use Rattle.state.specs.declared.State.{State}
 use Rattle.state.specs.declared.Refusal.{Refusal}
 use Rattle.state.specs.declared.Refusal.TheVariants.{InvalidArgument, TooLarge, InvalidState, NoMapping, BadShape, Damaged}
-use Rattle.machine.specs.Turn.{Turn, number, refuse}
+use Rattle.state.specs.Outcome.{number}
+use Rattle.machine.specs.Turn.{Turn, refuse}
 use Rattle.machine.specs.Release.{release_units, release_turn}
 use Rattle.machine.specs.Reset.{reset_turn}
 use Rattle.machine.specs.Machine.{Call, create, alloc, release, shrink, query, soft_reset, hard_reset, step}

@@ -1,5 +1,4 @@
--- What a call leaves: its answer, the record and the two maps; the refusals by their numbers; and the record with a part of it changed.
--- Assumes nothing.
+-- What a call leaves: its answer, the record and the two maps; and the record with a part of it changed. Assumes nothing.
 use Rattle.std.specs.Prelude.{ℕ, List, set, replicate}
 use Rattle.numbers.specs.Names.{Address, Bytes, Units, Age, Map}
 use Rattle.slots.specs.Slots.{put_slot}
@@ -8,21 +7,11 @@ use Rattle.sizes.specs.declared.Pool.{Pool}
 use Rattle.state.specs.declared.State.{State}
 use Rattle.state.specs.declared.Span.{Span}
 use Rattle.state.specs.declared.Refusal.{Refusal}
-use Rattle.state.specs.declared.Refusal.TheVariants.{InvalidArgument, TooLarge, InvalidState, NoMapping, BadShape, Damaged}
 use Rattle.state.specs.declared.Outcome.{Outcome}
 use Rattle.state.specs.declared.Answer.{Answer}
 use Rattle.state.specs.declared.Answer.TheVariants.{Refused}
 use Rattle.state.specs.Table.{pool_at}
 use Rattle.state.specs.Change.{with_rest, with_table}
-
--- ---- the numbers of the refusals
-abbrev pub number : Refusal → ℕ
-number InvalidArgument = 1
-number TooLarge = 2
-number InvalidState = 3
-number NoMapping = 4
-number BadShape = 5
-number Damaged = 6
 
 -- ---- a turn
 pub record Turn : Type 0 where

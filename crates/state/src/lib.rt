@@ -4,7 +4,7 @@
 ghost use Rattle.std.specs.Prelude.{◌≡◌, ◌<◌};
 ghost use Rattle.sizes.specs.Limits.{slot_limit};
 ghost use Rattle.state.specs.Table.{zero_block, zero_state, block_at, pool_at};
-ghost use Rattle.state.specs.Outcome.{refusal, size_refusal};
+ghost use Rattle.state.specs.Outcome.{refusal, size_refusal, number};
 ghost use Rattle.state.specs.Held.{refusal_of};
 
 use block::Block;
@@ -84,15 +84,23 @@ pub struct Span {
     pub size: u64,
 }
 
-// Document 01's refusals except the trace's own; `number` of machine/specs/Turn.antt has their numbers.
+// Document 01's refusals by their numbers; a trace's own, 7, is not among them.
 #[derive(Clone, Copy)]
 pub enum Refusal {
-    InvalidArgument,
-    TooLarge,
-    InvalidState,
-    NoMapping,
-    BadShape,
-    Damaged,
+    InvalidArgument = 1,
+    TooLarge = 2,
+    InvalidState = 3,
+    NoMapping = 4,
+    BadShape = 5,
+    Damaged = 6,
+}
+
+impl From<Refusal> for u64 {
+    ghost from_gives = { λ why n. n ≡ number why };
+
+    fn from(why: Refusal) -> u64 {
+        why as u64
+    }
 }
 
 impl From<SizeError> for Refusal {

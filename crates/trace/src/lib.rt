@@ -22,7 +22,8 @@ pub struct Played {
 pub fn play(s: State, used: &mut [u32], stop: &mut [u32], bytes: &[u8], out: &mut [u8]) -> Played
     ensures plays { Plays (play (length out.old / 80) s used.old stop.old bytes.now) out.old
         result.state used.new stop.new result.taken result.bad out.new result.written }
-    ensures taken_in_bounds { (result.taken ≤ length bytes.now) × (result.written ≤ length out.old) }
+    ensures taken_within { result.taken ≤ length bytes.now }
+    ensures written_within { result.written ≤ length out.old }
 {
     let mut p = Played {
         state: s,
