@@ -24,6 +24,7 @@ pub fn put_byte(out: &mut [u8], at: usize, byte: u8) -> usize
 }
 
 // Writes a number in decimal: first the digits before the last one, then that.
+#[tactic(auto, using(crate::proofs::Digits::few, crate::proofs::Digits::tenth_most))]
 fn put_decimal(out: &mut [u8], at: usize, n: u64) -> usize
     requires { at + 20 ≤ length out.old }
     ensures { Puts out.old at (decimal n) out.new result }
@@ -36,6 +37,7 @@ fn put_decimal(out: &mut [u8], at: usize, n: u64) -> usize
 }
 
 // Writes a space and a number.
+#[tactic(auto, using(crate::proofs::Digits::most, crate::proofs::Put::join))]
 pub fn put_number(out: &mut [u8], at: usize, n: u64) -> usize
     requires { at + 21 ≤ length out.old }
     ensures written { Puts out.old at (32 ∷ decimal n) out.new result }
