@@ -68,25 +68,20 @@ pub fn map_words() -> [u32; 8192]
     [0; 8192]
 }
 
-// The most bytes that a turn writes.
-pub const ROOM: usize = 65536;
-
-// The play of a trace: the state and its maps, how many bytes were played (`offset`), how many wait at the front of the buffer, how many
-// bytes of `out` a turn may write (`room`), and how many the last one wrote.
+// The play of a trace in lent memory: the state and its maps, how many bytes were played (`offset`), how many wait at the front of the
+// buffer, and how many the last turn wrote to the front of `out`.
 #[derive(Drop)]
-pub struct Feed {
+pub struct Feed<'a> {
     pub state: State,
-    pub used: [u32; 8192],
-    pub stop: [u32; 8192],
-    offset: u64,
-    buffer: [u8; 4096],
-    waiting: usize,
-    out: [u8; ROOM],
-    room: usize,
-    written: usize,
-    ghost waiting_fits: { waiting ≤ 4096 },
-    ghost room_fits: { room ≤ 65536 },
-    ghost written_fits: { written ≤ room },
+    pub used: &'a mut [u32],
+    pub stop: &'a mut [u32],
+    pub offset: u64,
+    pub buffer: &'a mut [u8],
+    pub waiting: usize,
+    pub out: &'a mut [u8],
+    pub written: usize,
+    ghost waiting_fits: { waiting ≤ length buffer.now },
+    ghost written_fits: { written ≤ length out.now },
 }
 
 // What a turn did: it played records, or read on, or wrote the trace's last line.
@@ -97,28 +92,32 @@ pub enum Turn {
     Ended,
 }
 
-impl Feed {
-    // Starts before a trace's first byte. A turn will write at most `room` bytes.
-    pub fn new(room: usize) -> Self
-        requires { room ≤ ROOM }
+impl<'a> Feed<'a> {
+    // Starts before a trace's first byte. A turn reads as many bytes as `buffer` has room for, and plays as many records as `out` has room
+    // for lines.
+    pub fn new(
+        used: &'a mut [u32],
+        stop: &'a mut [u32],
+        buffer: &'a mut [u8],
+        out: &'a mut [u8],
+    ) -> Self
         ensures nothing_waits { result.waiting ≡ 0 }
     {
         Feed {
             state: state::zero_state(),
-            used: map_words(),
-            stop: map_words(),
+            used,
+            stop,
             offset: 0,
-            buffer: [0; 4096],
+            buffer,
             waiting: 0,
-            out: [0; ROOM],
-            room,
+            out,
             written: 0,
         }
     }
 
     // Returns the lines that the last turn wrote.
     pub fn lines(&self) -> &[u8]
-        ensures { result.now ≡ take self.now.written self.now.out }
+        ensures { result.now ≡ take self.now.written self.now.out.now }
     {
         &self.out[..self.written]
     }
@@ -126,7 +125,7 @@ impl Feed {
     // Drops the played records from the buffer: moves the bytes after them to its front.
     fn go_on(&mut self, p: Played)
         requires taken_waited { p.taken ≤ self.old.waiting }
-        requires lines_fit { p.written ≤ self.old.room }
+        requires lines_fit { p.written ≤ length self.old.out.now }
         ensures shows_its_lines { self.new.written ≡ p.written }
     {
         let taken = p.taken;
@@ -140,19 +139,15 @@ impl Feed {
 
     // Writes the trace's last line.
     fn end(&mut self)
-        ensures maps_stay { (self.new.used ≡ self.old.used) × (self.new.stop ≡ self.old.stop) }
+        ensures maps_stay { (self.new.used.now ≡ self.old.used.now) × (self.new.stop.now ≡ self.old.stop.now) }
         ensures state_stays { self.new.state ≡ self.old.state }
     {
-        let state = self.state;
-        let room = self.room;
-        let out = &mut self.out[..];
-        let written = lines::finish(state, self.offset, self.waiting, &mut out[..room]);
-        self.written = written;
+        self.written = lines::finish(self.state, self.offset, self.waiting, self.out);
     }
 
     // Reads on, since the buffer holds no whole record; writes the last line if the trace ends. If the read fails, there is no last line.
     fn read_on<R: Read>(&mut self, source: &mut R) -> io::Result<Turn>
-        ensures maps_stay { (self.new.used ≡ self.old.used) × (self.new.stop ≡ self.old.stop) }
+        ensures maps_stay { (self.new.used.now ≡ self.old.used.now) × (self.new.stop.now ≡ self.old.stop.now) }
         ensures state_stays { self.new.state ≡ self.old.state }
     {
         let waiting = self.waiting;
@@ -169,18 +164,16 @@ impl Feed {
     // Takes one turn: plays the records in the buffer, as many as there is room for; reads on if there is no whole one; writes the last line
     // if the trace ends. If the read fails, nothing was played.
     pub fn turn<R: Read>(&mut self, source: &mut R) -> io::Result<Turn>
-        ensures err { OnErr result ((self.new.used ≡ self.old.used) × (self.new.stop ≡ self.old.stop)) }
+        ensures err { OnErr result ((self.new.used.now ≡ self.old.used.now) × (self.new.stop.now ≡ self.old.stop.now)) }
         ensures err_state { OnErr result (self.new.state ≡ self.old.state) }
     {
         let waiting = self.waiting;
-        let room = self.room;
-        let out = &mut self.out[..];
         let p = trace::play(
             self.state,
-            &mut self.used,
-            &mut self.stop,
+            self.used,
+            self.stop,
             &self.buffer[..waiting],
-            &mut out[..room],
+            self.out,
         );
         if 0 < p.taken {
             self.go_on(p);
@@ -194,7 +187,7 @@ impl Feed {
     }
 
     // Plays the trace to its end, and calls `after` with each turn.
-    pub fn play_all<R: Read, F: FnMut(&Feed, Turn) -> io::Result<()>>(
+    pub fn play_all<R: Read, F: FnMut(&Feed<'a>, Turn) -> io::Result<()>>(
         &mut self,
         source: &mut R,
         mut after: F,

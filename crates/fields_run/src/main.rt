@@ -26,7 +26,7 @@ fn pool_line(rt: &impl Print, k: usize, q: &Pool) -> io::Result<()> {
         q.area as u64,
         q.used as u64,
     ];
-    show::line(rt, "  pool", &numbers)
+    show::line(rt, b"  pool", &numbers)
 }
 
 fn block_line(rt: &impl Print, age: usize, b: &Block, used: u32, stop: u32) -> io::Result<()> {
@@ -45,7 +45,7 @@ fn block_line(rt: &impl Print, age: usize, b: &Block, used: u32, stop: u32) -> i
         used as u64,
         stop as u64,
     ];
-    show::line(rt, "  block", &numbers)
+    show::line(rt, b"  block", &numbers)
 }
 
 // ---- a state
@@ -66,8 +66,8 @@ fn show_pools(rt: &impl Print, play: &Feed) -> io::Result<()> {
 fn show_block(rt: &impl Print, play: &Feed, age: usize, b: &Block) -> io::Result<()> {
     let base = show::slot_base(b.slot, play.state.w);
     let count = b.area / 32;
-    let used = hash(&play.used, base, count);
-    let stop = hash(&play.stop, base, count);
+    let used = hash(play.used, base, count);
+    let stop = hash(play.stop, base, count);
     block_line(rt, age, b, used, stop)
 }
 
@@ -79,7 +79,7 @@ fn show_blocks(rt: &impl Print, play: &Feed) -> io::Result<()> {
 }
 
 fn show_state(rt: &impl Print, play: &Feed) -> io::Result<()> {
-    show::line(rt, "  state", &[play.state.live, play.state.count as u64])?;
+    show::line(rt, b"  state", &[play.state.live, play.state.count as u64])?;
     show_pools(rt, play)?;
     show_blocks(rt, play)
 }
@@ -96,7 +96,11 @@ fn show_turn(rt: &impl Print, play: &Feed, turn: Turn) -> io::Result<()> {
 }
 
 fn main(rt: HostRuntime) -> io::Result<()> {
+    let mut used = feed::map_words();
+    let mut stop = feed::map_words();
+    let mut buffer = [0u8; 4096];
     // There is room for one line only, so that a turn plays at most one record.
-    let mut play = Feed::new(80);
+    let mut out = [0u8; 80];
+    let mut play = Feed::new(&mut used, &mut stop, &mut buffer, &mut out);
     play.play_all(&mut rt.stdin(), |play, turn| show_turn(&rt, play, turn))
 }

@@ -152,10 +152,10 @@ fn write_bytes(k: u64) -> [u8; 257] {
 
 fn show_write(rt: &impl Print, answer: Answer) -> io::Result<()> {
     if let Answer::Shown(x) = answer {
-        show::line(rt, "  wrote", &[x.address, x.size])?;
+        show::line(rt, b"  wrote", &[x.address, x.size])?;
     }
     if let Answer::Refused(why) = answer {
-        show::line(rt, "  refused", &[u64::from(why)])?;
+        show::line(rt, b"  refused", &[u64::from(why)])?;
     }
     Ok(())
 }
@@ -193,7 +193,7 @@ fn turn(rt: &impl Print, lent: &mut Lent, s: State, k: u64, c: Call) -> io::Resu
     lent.clear_where_created(answer);
     if after.length != 0 {
         write(rt, lent, after, k, write_address(answer, c))?;
-        show::line(rt, "  image", &[lent.hash(after) as u64])?;
+        show::line(rt, b"  image", &[lent.hash(after) as u64])?;
     }
     Ok(after)
 }

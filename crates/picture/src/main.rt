@@ -144,8 +144,8 @@ fn draw_numbers(rt: &impl Print, age: usize, b: &Block) -> io::Result<()> {
 fn draw_block(rt: &impl Print, play: &Feed, age: usize, b: &Block) -> io::Result<()> {
     draw_numbers(rt, age, b)?;
     let slot = Slot {
-        used: &play.used,
-        stop: &play.stop,
+        used: play.used,
+        stop: play.stop,
         base: show::slot_base(b.slot, play.state.w),
     };
     draw_units(rt, slot, b.area)
@@ -165,7 +165,11 @@ fn draw(rt: &impl Print, play: &Feed) -> io::Result<()> {
 
 fn main(rt: HostRuntime) -> io::Result<()> {
     let mut source = feed::open(&rt)?;
-    let mut play = Feed::new(feed::ROOM);
+    let mut used = feed::map_words();
+    let mut stop = feed::map_words();
+    let mut buffer = [0u8; 4096];
+    let mut out = [0u8; 65536];
+    let mut play = Feed::new(&mut used, &mut stop, &mut buffer, &mut out);
     play.play_all(&mut source, |_, _| Ok(()))?;
     draw(&rt, &play)
 }

@@ -6,6 +6,10 @@ use std::io;
 
 fn main(rt: HostRuntime) -> io::Result<()> {
     let mut source = feed::open(&rt)?;
-    let mut play = Feed::new(feed::ROOM);
+    let mut used = feed::map_words();
+    let mut stop = feed::map_words();
+    let mut buffer = [0u8; 4096];
+    let mut out = [0u8; 65536];
+    let mut play = Feed::new(&mut used, &mut stop, &mut buffer, &mut out);
     play.play_all(&mut source, |play, _| rt.write_all(play.lines()))
 }

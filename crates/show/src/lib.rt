@@ -10,13 +10,13 @@ use std::{fmt, io};
 // A line without its end: a word, and numbers with a space before each.
 #[derive(Clone, Copy)]
 struct LineText<'a> {
-    word: &'a str,
+    text: &'a str,
     numbers: &'a [u64],
 }
 
 impl fmt::Display for LineText<'_> {
     fn fmt<W: fmt::Write>(&self, f: &mut fmt::Formatter<W>) -> fmt::Result {
-        f.write_str(self.word)?;
+        f.write_str(self.text)?;
         for n in self.numbers {
             write!(f, " {n}")?;
         }
@@ -24,9 +24,13 @@ impl fmt::Display for LineText<'_> {
     }
 }
 
-// Writes a word and numbers as a line, in one write.
-pub fn line(rt: &impl Print, word: &str, numbers: &[u64]) -> io::Result<()> {
-    rt.println(LineText { word, numbers })
+// Writes a word and numbers as a line, in one write. A word that is no text is written as it is, in a write of its own.
+pub fn line(rt: &impl Print, word: &[u8], numbers: &[u64]) -> io::Result<()> {
+    let Ok(text) = str::from_utf8(word) else {
+        rt.write_all(word)?;
+        return rt.println(LineText { text: "", numbers });
+    };
+    rt.println(LineText { text, numbers })
 }
 
 // Writes the bytes up to `end`, in one write.

@@ -142,7 +142,7 @@ fn head_line(rt: &impl Print, s: State) -> io::Result<()> {
         s.live,
         s.count as u64,
     ];
-    show::line(rt, "record", &numbers)
+    show::line(rt, b"record", &numbers)
 }
 
 fn pool_line(rt: &impl Print, q: Pool) -> io::Result<()> {
@@ -153,7 +153,7 @@ fn pool_line(rt: &impl Print, q: Pool) -> io::Result<()> {
         q.area as u64,
         q.used as u64,
     ];
-    show::line(rt, "pool", &numbers)
+    show::line(rt, b"pool", &numbers)
 }
 
 fn show_pools(rt: &impl Print, s: State) -> io::Result<()> {
@@ -188,7 +188,7 @@ fn entry_line(rt: &impl Print, i: usize, age: usize, b: Block) -> io::Result<()>
         b.end as u64,
         b.largest as u64,
     ];
-    show::line(rt, "entry", &numbers)
+    show::line(rt, b"entry", &numbers)
 }
 
 fn show_entries(rt: &impl Print, s: State) -> io::Result<()> {
