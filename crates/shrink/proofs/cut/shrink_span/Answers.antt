@@ -3,17 +3,16 @@
 use Prim.Native.Nat.{ℕ, ◌-◌, ◌≤◌, ◌<◌}
 use mathlib.Core.Path.{ap, ◌∙◌}
 use native.Mathlib.Omega.{arith}
-use borrow.Author.Tests.{ne_eqb, lt-ltb, le-ltb}
+use borrow.Author.Tests.{ne_eqb, le-ltb}
 use lib.ListN.{length}
-use Rattle.numbers.specs.Units.{units_of, bytes_of}
-use Rattle.state.specs.declared.Outcome.{Outcome}
+use Rattle.numbers.specs.Units.{bytes_of}
 use Rattle.state.specs.declared.Span.{Span}
 use Rattle.state.specs.declared.Answer.TheVariants.{Shrunk}
 use Rattle.state.specs.Table.{block_at}
 use Rattle.machine.specs.Turn.{turn, unit_of, span}
 use Rattle.machine.specs.Shrink.{shrink_units}
 use Rattle.shape_facts.proofs.Facts.{pool_3, unit_g}
-use Rattle.shrink.proofs.Cases.{units_over, units_within, more_units, fewer_units}
+use Rattle.shrink.proofs.Cases.{units_within, fewer_units}
 use Rattle.shrink.proofs.cut.shrink_span.Goals.{Start}
 use Rattle.shrink.proofs.cut.shrink_span.Goals as goal
 
