@@ -1,10 +1,10 @@
--- What a query shows through an image lies in it, at the address; and what is written where nothing is shown. Assumes nothing.
+-- What a query shows through an image lies in it, at the address; and a write that passes its span is refused. Assumes nothing.
 use Prim.Native.Nat.{ℕ, ◌+◌, ◌≤◌}
 use mathlib.Core.Bool.{Bool}
 use mathlib.Core.List.{List}
 use mathlib.Core.Path.{◌≡◌, refl, sym, ap, subst}
 use native.Mathlib.Omega.{arith}
-use borrow.Author.Tests.{le-leb, lt-leb}
+use borrow.Author.Tests.{lt-leb}
 use lib.ListN.{length}
 use Rattle.numbers.specs.Pick.{pick}
 use Rattle.state.specs.declared.State.{State}
@@ -52,9 +52,6 @@ module _ (s : State) (u t : List ℕ) (room a : ℕ) where
       lent_cases s u t room (λ (x : Turn). IfShown (LiesWithin s.arena room a) x.answer) (query_turn s u t a)
       (λ e. subst (λ (n : ℕ). IfShown (LiesWithin s.arena n a) (query_turn s u t a).answer) (sym e) shown_lies) (λ why. tt)
 
--- ---- a span's room
+-- ---- a write that passes its span
 pub no_room : (offset n : ℕ) (x : Span) → x.size + 1 ≤ offset + n → Refused InvalidArgument ≡ fits offset n (Shown x)
 no_room offset n x h = sym (ap (λ (b : Bool). pick b (Shown x) (Refused InvalidArgument)) (lt-leb (offset + n) x.size (omega (arith, h))))
-
-pub room : (offset n : ℕ) (x : Span) → offset + n ≤ x.size → Shown x ≡ fits offset n (Shown x)
-room offset n x h = sym (ap (λ (b : Bool). pick b (Shown x) (Refused InvalidArgument)) (le-leb (offset + n) x.size h))
