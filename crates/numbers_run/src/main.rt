@@ -83,12 +83,8 @@ fn base(rt: &impl Print, asked: u32) -> io::Result<()> {
 // Writes ` to SIZE`, or ` refused N`.
 fn answer(rt: &impl Print, r: Result<u64, sizes::SizeError>) -> io::Result<()> {
     match r {
-        Ok(size) => {
-            print!(rt; " to {size}")
-        }
-        Err(why) => {
-            print!(rt; " refused {}", why as u64)
-        }
+        Ok(size) => { print!(rt; " to {size}") }
+        Err(why) => { print!(rt; " refused {}", why as u64) }
     }
 }
 
