@@ -35,7 +35,7 @@ stays c = let a = c.args in subst (λ (b : Block). Stays b (block_at a.s a.j)) (
 pub less_used-r-requires : goal.less_used-r-requires
 less_used-r-requires c =
     let a = c.args in
-    let p = less_ready a.s (length a.used.now) (length a.stop.now) c.requires.shaped a.j c.requires.stands (a.to - a.from) c.requires.counted in
+    let p = less_ready a.s (length a.used.now) (length a.stop.now) c.requires.shaped a.j c.requires.stands (a.units.to - a.units.from) c.requires.counted in
     record { in_table = p.0; counted = p.1 }
 
 -- whatever the live count is

@@ -7,5 +7,5 @@ use Rattle.shrink.proofs.cut.cut_off.Goals as goal
 pub less_used-requires : goal.less_used-requires
 less_used-requires c =
     let a = c.args in
-    let p = less_ready a.s (length a.used.now) (length a.stop.now) c.requires.shaped a.j c.requires.stands (a.to - a.from) c.requires.counted in
+    let p = less_ready a.s (length a.used.now) (length a.stop.now) c.requires.shaped a.j c.requires.stands (a.tail.to - a.tail.from) c.requires.counted in
     record { in_table = p.0; counted = p.1 }
