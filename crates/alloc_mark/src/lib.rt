@@ -21,7 +21,7 @@ fn counted(q: Pool, b: Block, n: u32) -> Pool
     ensures { result ≡ with_counts q (q.empty - one (is_empty b)) (q.used + n) }
 {
     Pool {
-        empty: q.empty - u32::from(b.flags & Block::FLAG_EMPTY != 0),
+        empty: q.empty - u32::from(b.is_empty()),
         used: q.used + n,
         ..q
     }

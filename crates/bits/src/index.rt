@@ -16,7 +16,7 @@ pub fn bit_vector_index_of(buf: &[u32], start: usize, value: bool) -> usize
     requires { (start < 32 * length buf.now) × (length buf.now < 2 ^ 32) }
     ensures { FirstAt buf.now start (bool_byte value) result }
 {
-    // what of a word is looked at: all of it, but for the first word
+    // The mask has what is looked at of a word: of the first one the bits from `start` on, of the others all.
     let bit_index = (start % 32) as u32;
     let mut mask = u32::MAX << bit_index;
     for i in start / 32..buf.len() {

@@ -68,126 +68,161 @@ pub fn map_words() -> [u32; 8192]
     [0; 8192]
 }
 
-// The play of a trace in lent memory: the state and its maps, how many bytes were played (`offset`), how many wait at the front of the
-// buffer, and how many the last turn wrote to the front of `out`.
-#[derive(Drop)]
-pub struct Feed<'a> {
+// Where a trace stands: the state, how many bytes were played (`offset`), how many wait at the front of the buffer, how many the last turn
+// wrote, and whether that turn was the last one (`done`).
+#[derive(Clone, Copy)]
+pub struct Feed {
     pub state: State,
+    pub offset: u64,
+    pub waiting: usize,
+    pub written: usize,
+    pub done: bool,
+}
+
+pub fn start() -> Feed
+    ensures nothing_waits { result.waiting ≡ 0 }
+    ensures nothing_written { result.written ≡ 0 }
+{
+    Feed {
+        state: state::zero_state(),
+        offset: 0,
+        waiting: 0,
+        written: 0,
+        done: false,
+    }
+}
+
+// Writes the trace's last line, and ends the trace.
+fn last(f: Feed, out: &mut [u8]) -> Feed
+    ensures waiting_stays { result.waiting ≡ f.waiting }
+    ensures lines_fit { result.written ≤ length out.old }
+{
+    Feed {
+        written: lines::finish(f.state, f.offset, f.waiting, out),
+        done: true,
+        ..f
+    }
+}
+
+// Reads on, since the buffer holds no whole record; writes the last line if the trace ends. If the read fails, there is no last line.
+fn read_on<R: Read>(source: &mut R, f: Feed, buffer: &mut [u8], out: &mut [u8]) -> io::Result<Feed>
+    requires { f.waiting ≤ length buffer.old }
+    ensures { IfOk result (λ r. (r.waiting ≤ length buffer.old) × (r.written ≤ length out.old)) }
+{
+    let more = source.read(&mut buffer[f.waiting..])?;
+    if more == 0 {
+        return Ok(last(f, out));
+    }
+    Ok(Feed {
+        waiting: f.waiting + more,
+        written: 0,
+        done: false,
+        ..f
+    })
+}
+
+// Drops the played records from the buffer: moves the bytes after them to its front.
+fn go_on(f: Feed, p: Played, buffer: &mut [u8]) -> Feed
+    requires taken_waited { p.taken ≤ f.waiting }
+    requires waiting_fits { f.waiting ≤ length buffer.old }
+    ensures waiting_fits { result.waiting ≤ length buffer.old }
+    ensures shows_its_lines { result.written ≡ p.written }
+{
+    buffer.copy_within(p.taken..f.waiting, 0);
+    Feed {
+        state: p.state,
+        offset: f.offset.wrapping_add(p.taken as u64),
+        waiting: f.waiting - p.taken,
+        written: p.written,
+        done: false,
+    }
+}
+
+// Takes one turn: plays the records in the buffer, as many as `out` has room for; reads on if there is no whole one; writes the last line
+// if the trace ends. The caller then writes out the first `written` bytes of `out`. If the read fails, nothing was played.
+pub fn turn<R: Read>(
+    source: &mut R,
+    f: Feed,
+    used: &mut [u32],
+    stop: &mut [u32],
+    buffer: &mut [u8],
+    out: &mut [u8],
+) -> io::Result<Feed>
+    requires { f.waiting ≤ length buffer.old }
+    ensures ok { IfOk result (λ r. (r.waiting ≤ length buffer.old) × (r.written ≤ length out.old)) }
+    ensures err { OnErr result ((used.new ≡ used.old) × (stop.new ≡ stop.old)) }
+{
+    let waiting = f.waiting;
+    let p = trace::play(f.state, used, stop, &buffer[..waiting], out);
+    if 0 < p.taken {
+        return Ok(go_on(f, p, buffer));
+    }
+    let state = p.state;
+    if p.bad {
+        return Ok(last(Feed { state, ..f }, out));
+    }
+    read_on(source, Feed { state, ..f }, buffer, out)
+}
+
+// ---- a whole trace
+
+// The play of a trace in lent memory: where it stands, the maps, the bytes read, and the lines that the last turn wrote.
+#[derive(Drop)]
+pub struct Play<'a> {
+    pub feed: Feed,
     pub used: &'a mut [u32],
     pub stop: &'a mut [u32],
-    pub offset: u64,
     pub buffer: &'a mut [u8],
-    pub waiting: usize,
     pub out: &'a mut [u8],
-    pub written: usize,
-    ghost waiting_fits: { waiting ≤ length buffer.now },
-    ghost written_fits: { written ≤ length out.now },
+    ghost waiting_fits: { feed.waiting ≤ length buffer.now },
+    ghost written_fits: { feed.written ≤ length out.now },
 }
 
-// What a turn did: it played records, or read on, or wrote the trace's last line.
-#[derive(Clone, Copy, PartialEq, Eq)]
-pub enum Turn {
-    Played,
-    ReadOn,
-    Ended,
-}
-
-impl<'a> Feed<'a> {
-    // Starts before a trace's first byte. A turn reads as many bytes as `buffer` has room for, and plays as many records as `out` has room
-    // for lines.
+impl<'a> Play<'a> {
+    // Starts before a trace's first byte.
     pub fn new(
         used: &'a mut [u32],
         stop: &'a mut [u32],
         buffer: &'a mut [u8],
         out: &'a mut [u8],
     ) -> Self
-        ensures nothing_waits { result.waiting ≡ 0 }
+        ensures nothing_waits { result.feed.waiting ≡ 0 }
+        ensures nothing_written { result.feed.written ≡ 0 }
     {
-        Feed {
-            state: state::zero_state(),
+        Play {
+            feed: start(),
             used,
             stop,
-            offset: 0,
             buffer,
-            waiting: 0,
             out,
-            written: 0,
         }
     }
 
     // Returns the lines that the last turn wrote.
     pub fn lines(&self) -> &[u8]
-        ensures { result.now ≡ take self.now.written self.now.out.now }
+        ensures { result.now ≡ take self.now.feed.written self.now.out.now }
     {
-        &self.out[..self.written]
+        &self.out[..self.feed.written]
     }
 
-    // Drops the played records from the buffer: moves the bytes after them to its front.
-    fn go_on(&mut self, p: Played)
-        requires taken_waited { p.taken ≤ self.old.waiting }
-        requires lines_fit { p.written ≤ length self.old.out.now }
-        ensures shows_its_lines { self.new.written ≡ p.written }
+    // Takes one turn (`turn`). If the read fails, it leaves the maps and where the trace stands.
+    pub fn turn<R: Read>(&mut self, source: &mut R) -> io::Result<()>
+        ensures maps_stay { OnErr result ((self.new.used.now ≡ self.old.used.now) × (self.new.stop.now ≡ self.old.stop.now)) }
+        ensures feed_stays { OnErr result (self.new.feed ≡ self.old.feed) }
     {
-        let taken = p.taken;
-        let waiting = self.waiting;
-        self.buffer.copy_within(taken..waiting, 0);
-        self.state = p.state;
-        self.offset = self.offset.wrapping_add(taken as u64);
-        self.waiting = waiting - taken;
-        self.written = p.written;
-    }
-
-    // Writes the trace's last line.
-    fn end(&mut self)
-        ensures maps_stay { (self.new.used.now ≡ self.old.used.now) × (self.new.stop.now ≡ self.old.stop.now) }
-        ensures state_stays { self.new.state ≡ self.old.state }
-    {
-        self.written = lines::finish(self.state, self.offset, self.waiting, self.out);
-    }
-
-    // Reads on, since the buffer holds no whole record; writes the last line if the trace ends. If the read fails, there is no last line.
-    fn read_on<R: Read>(&mut self, source: &mut R) -> io::Result<Turn>
-        ensures maps_stay { (self.new.used.now ≡ self.old.used.now) × (self.new.stop.now ≡ self.old.stop.now) }
-        ensures state_stays { self.new.state ≡ self.old.state }
-    {
-        let waiting = self.waiting;
-        let more = source.read(&mut self.buffer[waiting..])?;
-        if more == 0 {
-            self.end();
-            return Ok(Turn::Ended);
-        }
-        self.waiting = waiting + more;
-        self.written = 0;
-        Ok(Turn::ReadOn)
-    }
-
-    // Takes one turn: plays the records in the buffer, as many as there is room for; reads on if there is no whole one; writes the last line
-    // if the trace ends. If the read fails, nothing was played.
-    pub fn turn<R: Read>(&mut self, source: &mut R) -> io::Result<Turn>
-        ensures err { OnErr result ((self.new.used.now ≡ self.old.used.now) × (self.new.stop.now ≡ self.old.stop.now)) }
-        ensures err_state { OnErr result (self.new.state ≡ self.old.state) }
-    {
-        let waiting = self.waiting;
-        let p = trace::play(
-            self.state,
+        self.feed = turn(
+            source,
+            self.feed,
             self.used,
             self.stop,
-            &self.buffer[..waiting],
+            self.buffer,
             self.out,
-        );
-        if 0 < p.taken {
-            self.go_on(p);
-            return Ok(Turn::Played);
-        }
-        if p.bad {
-            self.end();
-            return Ok(Turn::Ended);
-        }
-        self.read_on(source)
+        )?;
+        Ok(())
     }
 
     // Plays the trace to its end, and calls `after` with each turn.
-    pub fn play_all<R: Read, F: FnMut(&Feed<'a>, Turn) -> io::Result<()>>(
+    pub fn play_all<R: Read, F: FnMut(&Play<'a>) -> io::Result<()>>(
         &mut self,
         source: &mut R,
         mut after: F,
@@ -196,9 +231,9 @@ impl<'a> Feed<'a> {
     {
         // Bounds the loop for the checker: nothing proves that a file ends.
         for _ in 0..u64::MAX {
-            let turn = self.turn(source)?;
-            after(self, turn)?;
-            if turn == Turn::Ended {
+            self.turn(source)?;
+            after(self)?;
+            if self.feed.done {
                 break;
             }
         }

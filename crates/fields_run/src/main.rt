@@ -3,7 +3,7 @@
 #![tactic(auto)]
 
 use block::Block;
-use feed::{Feed, Turn};
+use feed::Play;
 use sizes::Pool;
 use std::io;
 
@@ -50,36 +50,47 @@ fn block_line(rt: &impl Print, age: usize, b: &Block, used: u32, stop: u32) -> i
 
 // ---- a state
 
-fn show_pools(rt: &impl Print, play: &Feed) -> io::Result<()> {
+fn show_pools(rt: &impl Print, play: &Play) -> io::Result<()> {
     for (k, q) in play
         .state
         .pools
         .iter()
         .enumerate()
-        .take(play.state.poolcount)
+        .take(play.feed.state.poolcount)
     {
         pool_line(rt, k, q)?;
     }
     Ok(())
 }
 
-fn show_block(rt: &impl Print, play: &Feed, age: usize, b: &Block) -> io::Result<()> {
-    let base = show::slot_base(b.slot, play.state.w);
+fn show_block(rt: &impl Print, play: &Play, age: usize, b: &Block) -> io::Result<()> {
+    let base = show::slot_base(b.slot, play.feed.state.w);
     let count = b.area / 32;
     let used = hash(play.used, base, count);
     let stop = hash(play.stop, base, count);
     block_line(rt, age, b, used, stop)
 }
 
-fn show_blocks(rt: &impl Print, play: &Feed) -> io::Result<()> {
-    for (age, b) in play.state.blocks.iter().enumerate().take(play.state.count) {
+fn show_blocks(rt: &impl Print, play: &Play) -> io::Result<()> {
+    for (age, b) in play
+        .feed
+        .state
+        .blocks
+        .iter()
+        .enumerate()
+        .take(play.feed.state.count)
+    {
         show_block(rt, play, age, b)?;
     }
     Ok(())
 }
 
-fn show_state(rt: &impl Print, play: &Feed) -> io::Result<()> {
-    show::line(rt, b"  state", &[play.state.live, play.state.count as u64])?;
+fn show_state(rt: &impl Print, play: &Play) -> io::Result<()> {
+    show::line(
+        rt,
+        b"  state",
+        &[play.feed.state.live, play.feed.state.count as u64],
+    )?;
     show_pools(rt, play)?;
     show_blocks(rt, play)
 }
@@ -87,9 +98,9 @@ fn show_state(rt: &impl Print, play: &Feed) -> io::Result<()> {
 // ---- the trace
 
 // Shows what a turn wrote, and the state if that was a call's line. The trace's last line has no state after it.
-fn show_turn(rt: &impl Print, play: &Feed, turn: Turn) -> io::Result<()> {
+fn show_turn(rt: &impl Print, play: &Play) -> io::Result<()> {
     rt.write_all(play.lines())?;
-    if turn == Turn::Played {
+    if 0 < play.feed.written && !play.feed.done {
         show_state(rt, play)?;
     }
     Ok(())
@@ -101,6 +112,6 @@ fn main(rt: HostRuntime) -> io::Result<()> {
     let mut buffer = [0u8; 4096];
     // There is room for one line only, so that a turn plays at most one record.
     let mut out = [0u8; 80];
-    let mut play = Feed::new(&mut used, &mut stop, &mut buffer, &mut out);
-    play.play_all(&mut rt.stdin(), |play, turn| show_turn(&rt, play, turn))
+    let mut play = Play::new(&mut used, &mut stop, &mut buffer, &mut out);
+    play.play_all(&mut rt.stdin(), |play| show_turn(&rt, play))
 }

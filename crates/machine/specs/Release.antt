@@ -6,7 +6,7 @@ use Rattle.numbers.specs.Units.{bytes_of}
 use Rattle.block.specs.declared.Block.{Block}
 use Rattle.block.specs.Marking.{mark_released}
 use Rattle.state.specs.declared.State.{State}
-use Rattle.state.specs.Held.{Held, refusal_of}
+use Rattle.state.specs.Held.{Held, span_refusal}
 use Rattle.state.specs.declared.Refusal.TheVariants.{InvalidArgument, InvalidState, BadShape, Damaged}
 use Rattle.state.specs.declared.Answer.{Answer}
 use Rattle.state.specs.declared.Answer.TheVariants.{Released}
@@ -42,7 +42,7 @@ release_units s u t a j from to =
 
 -- also damaged: a span longer than the block's used count, and live count 0
 abbrev pub release_held : State → Map → Map → Address → Age → Held → Turn
-release_held s u t a j (Err why) = refuse (refusal_of why) s u t
+release_held s u t a j (Err why) = refuse (span_refusal why) s u t
 release_held s u t a j (Ok units) =
     pick (ltb (block_at s j).used (units.to - units.from) || eqb s.live 0) (refuse Damaged s u t) (release_units s u t a j units.from units.to)
 

@@ -5,7 +5,7 @@ use Rattle.numbers.specs.Pick.{pick}
 use Rattle.numbers.specs.Units.{units_of, bytes_of}
 use Rattle.block.specs.Marking.{mark_shrunk}
 use Rattle.state.specs.declared.State.{State}
-use Rattle.state.specs.Held.{Held, refusal_of}
+use Rattle.state.specs.Held.{Held, span_refusal}
 use Rattle.state.specs.declared.Refusal.TheVariants.{InvalidArgument, InvalidState, BadShape, Damaged}
 use Rattle.state.specs.declared.Answer.TheVariants.{Shrunk}
 use Rattle.state.specs.Table.{block_at}
@@ -30,7 +30,7 @@ shrink_units s u t a j from to n =
 
 -- units = new size over the unit, rounded up, exactly
 abbrev pub shrink_held : State → Map → Map → Address → Bytes → Age → Held → Turn
-shrink_held s u t a size j (Err why) = refuse (refusal_of why) s u t
+shrink_held s u t a size j (Err why) = refuse (span_refusal why) s u t
 shrink_held s u t a size j (Ok units) =
     pick (ltb (block_at s j).used (units.to - units.from)) (refuse Damaged s u t)
     (shrink_units s u t a j units.from units.to (units_of size (unit_of s (block_at s j))))

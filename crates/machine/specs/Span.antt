@@ -8,7 +8,7 @@ use Rattle.slots.specs.Slots.{slot_of}
 use Rattle.block.specs.declared.Block.{Block}
 use Rattle.state.specs.declared.State.{State}
 use Rattle.state.specs.declared.NotHeld.TheVariants.{NoSpan, NoStop}
-use Rattle.state.specs.Held.{Held, range, refusal_of}
+use Rattle.state.specs.Held.{Held, range, span_refusal}
 use Rattle.state.specs.declared.Refusal.TheVariants.{InvalidArgument, BadShape}
 use Rattle.state.specs.declared.Answer.TheVariants.{Shown}
 use Rattle.state.specs.Table.{block_at}
@@ -40,7 +40,7 @@ held_in s u t a j = held_of s.w (block_at s j) (unit_of s (block_at s j)) u t a
 
 -- ---- the call query
 abbrev pub query_held : State → Map → Map → Address → Age → Held → Turn
-query_held s u t a j (Err why) = refuse (refusal_of why) s u t
+query_held s u t a j (Err why) = refuse (span_refusal why) s u t
 query_held s u t a j (Ok units) = turn (Shown (span a (bytes_of (units.to - units.from) (unit_of s (block_at s j))))) s u t
 
 -- if no block holds the address, the call ends with refusal 1

@@ -162,18 +162,7 @@ const USED: [[u32; 3]; 8] = [
     [0x9e37_79b9, 0x7f4a_7c15, 0xf39c_c060],
 ];
 
-// Writes ` at I`, ` tight FIRST LAST LONGEST` or ` full`, and the line's end.
-fn found(rt: &impl Print, answer: runs::Search) -> io::Result<()> {
-    match answer {
-        runs::Search::At(i) => println!(rt; " at {i}"),
-        runs::Search::Tight(first, last, longest) => println!(rt;
-            " tight {first} {last} {longest}"
-        ),
-        runs::Search::Full => println!(rt; " full"),
-    }
-}
-
-// Writes `search P S E N`, and what is found.
+// Writes `search P S E N`, and ` at I`, ` tight FIRST LAST LONGEST` or ` full`.
 fn search(
     rt: &impl Print,
     p: usize,
@@ -182,11 +171,16 @@ fn search(
     end: usize,
     n: usize,
 ) -> io::Result<()> {
-    if start <= 96 && end <= 96 && 0 < n {
-        print!(rt; "search {p} {start} {end} {n}")?;
-        found(rt, runs::window::search_window(map, start, end, n))?;
+    if start > 96 || end > 96 || n == 0 {
+        return Ok(());
     }
-    Ok(())
+    match runs::window::search_window(map, start, end, n) {
+        runs::Search::At(i) => println!(rt; "search {p} {start} {end} {n} at {i}"),
+        runs::Search::Tight(first, last, longest) => println!(rt;
+            "search {p} {start} {end} {n} tight {first} {last} {longest}"
+        ),
+        runs::Search::Full => println!(rt; "search {p} {start} {end} {n} full"),
+    }
 }
 
 fn run(rt: &impl Print, start: usize, end: usize) -> io::Result<()> {

@@ -80,22 +80,15 @@ fn base(rt: &impl Print, asked: u32) -> io::Result<()> {
     println!(rt; "base {asked} {}", sizes::limits::base_size_in_force(asked))
 }
 
-// Writes ` to SIZE`, or ` refused N`.
-fn answer(rt: &impl Print, r: Result<u64, sizes::SizeError>) -> io::Result<()> {
-    match r {
-        Ok(size) => { print!(rt; " to {size}") }
-        Err(why) => { print!(rt; " refused {}", why as u64) }
-    }
-}
-
 // Writes `round SIZE G to ROUNDED`, or `round SIZE G refused N`.
 fn round(rt: &impl Print, size: u64, granularity: u64) -> io::Result<()> {
-    if 0 < granularity {
-        print!(rt; "round {size} {granularity}")?;
-        answer(rt, sizes::round_size(size, granularity))?;
-        println!(rt)?;
+    if granularity == 0 {
+        return Ok(());
     }
-    Ok(())
+    match sizes::round_size(size, granularity) {
+        Ok(rounded) => println!(rt; "round {size} {granularity} to {rounded}"),
+        Err(why) => println!(rt; "round {size} {granularity} refused {}", why as u64),
+    }
 }
 
 fn rounds(rt: &impl Print, size: u64) -> io::Result<()> {

@@ -3,7 +3,7 @@
 #![tactic(auto)]
 
 use block::Block;
-use feed::Feed;
+use feed::Play;
 use std::{fmt, io};
 
 // ---- units
@@ -125,11 +125,7 @@ fn draw_units(rt: &impl Print, slot: Slot<'_>, area: u32) -> io::Result<()> {
 }
 
 fn draw_numbers(rt: &impl Print, age: usize, b: &Block) -> io::Result<()> {
-    let empty = if b.flags & Block::FLAG_EMPTY != 0 {
-        ", empty"
-    } else {
-        ""
-    };
+    let empty = if b.is_empty() { ", empty" } else { "" };
     let dirty = if b.flags & Block::FLAG_DIRTY != 0 {
         ", dirty"
     } else {
@@ -141,18 +137,18 @@ fn draw_numbers(rt: &impl Print, age: usize, b: &Block) -> io::Result<()> {
     )
 }
 
-fn draw_block(rt: &impl Print, play: &Feed, age: usize, b: &Block) -> io::Result<()> {
+fn draw_block(rt: &impl Print, play: &Play, age: usize, b: &Block) -> io::Result<()> {
     draw_numbers(rt, age, b)?;
     let slot = Slot {
         used: play.used,
         stop: play.stop,
-        base: show::slot_base(b.slot, play.state.w),
+        base: show::slot_base(b.slot, play.feed.state.w),
     };
     draw_units(rt, slot, b.area)
 }
 
-fn draw(rt: &impl Print, play: &Feed) -> io::Result<()> {
-    let s = &play.state;
+fn draw(rt: &impl Print, play: &Play) -> io::Result<()> {
+    let s = &play.feed.state;
     println!(rt;
         "live spans {}, blocks {}, slots {} of {} words",
         s.live, s.count, s.slots, s.w
@@ -169,7 +165,7 @@ fn main(rt: HostRuntime) -> io::Result<()> {
     let mut stop = feed::map_words();
     let mut buffer = [0u8; 4096];
     let mut out = [0u8; 65536];
-    let mut play = Feed::new(&mut used, &mut stop, &mut buffer, &mut out);
-    play.play_all(&mut source, |_, _| Ok(()))?;
+    let mut play = Play::new(&mut used, &mut stop, &mut buffer, &mut out);
+    play.play_all(&mut source, |_| Ok(()))?;
     draw(&rt, &play)
 }

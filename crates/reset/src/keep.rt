@@ -17,7 +17,7 @@ pub fn empty_table(s: State) -> State
     State {
         live: 0,
         count: 0,
-        blocks: [state::zero_block(); state::SLOT_LIMIT],
+        blocks: [Block::default(); state::SLOT_LIMIT],
         order: [0; state::SLOT_LIMIT],
         pools: [Pool::new(s.granularity); 3],
         ..s

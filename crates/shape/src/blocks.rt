@@ -14,6 +14,13 @@ pub fn is_zero(b: &Block) -> bool
     *b == Block::default()
 }
 
+// True if there is such a slot and such a pool.
+fn place_ok(b: &Block, s: &State) -> bool
+    ensures { result ≡ place_ok s.now b.now }
+{
+    b.slot < s.slots && b.pool < s.poolcount
+}
+
 // True if the block's area is not 0, a multiple of 32, times the granularity its size, and not past its slot.
 fn area_ok(b: &Block, s: &State) -> bool
     requires { (s.now.granularity ≤ 256) × (s.now.w ≤ max_slot_words) }
@@ -42,13 +49,6 @@ fn empty_ok(b: &Block) -> bool
     ensures { result ≡ empty_ok b.now }
 {
     b.is_empty() == (b.used == 0)
-}
-
-// True if there is such a slot and such a pool.
-fn place_ok(b: &Block, s: &State) -> bool
-    ensures { result ≡ place_ok s.now b.now }
-{
-    b.slot < s.slots && b.pool < s.poolcount
 }
 
 // Tests all that BadShape asks of one block by itself, in the order in which it asks.

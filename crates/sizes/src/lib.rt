@@ -59,7 +59,7 @@ pub fn size_to_pool_id(size: u64, granularity: u64, poolcount: usize) -> usize
 // ---- a request, and a new block for it
 
 // Why a request's size is refused, with document 01's numbers.
-#[derive(Clone, Copy, Debug, PartialEq, Eq)]
+#[derive(Clone, Copy, PartialEq, Eq)]
 pub enum SizeError {
     InvalidArgument = 1,
     TooLarge = 2,

@@ -14,6 +14,6 @@ abbrev pub range : Units → Units → UnitRange
 range from to = record { from = from; to = to }
 
 -- no span starts there: refusal 1; its area has no stop bit from there on: refusal 6
-abbrev pub refusal_of : NotHeld → Refusal
-refusal_of NoSpan = InvalidArgument
-refusal_of NoStop = Damaged
+abbrev pub span_refusal : NotHeld → Refusal
+span_refusal NoSpan = InvalidArgument
+span_refusal NoStop = Damaged

@@ -5,7 +5,7 @@ ghost use Rattle.std.specs.Prelude.{◌≡◌, ◌<◌};
 ghost use Rattle.sizes.specs.Limits.{slot_limit};
 ghost use Rattle.state.specs.Table.{zero_block, zero_state, block_at, pool_at};
 ghost use Rattle.state.specs.Outcome.{refusal, size_refusal, number};
-ghost use Rattle.state.specs.Held.{refusal_of};
+ghost use Rattle.state.specs.Held.{span_refusal};
 
 use block::Block;
 use sizes::{Pool, SizeError};
@@ -85,7 +85,7 @@ pub struct Span {
 }
 
 // Document 01's refusals by their numbers; a trace's own, 7, is not among them.
-#[derive(Clone, Copy)]
+#[derive(Clone, Copy, PartialEq, Eq)]
 pub enum Refusal {
     InvalidArgument = 1,
     TooLarge = 2,
@@ -134,14 +134,14 @@ pub struct UnitRange {
 }
 
 // Why an address of a block holds no span: none starts there, or the one that does has no stop bit.
-#[derive(Clone, Copy)]
+#[derive(Clone, Copy, PartialEq, Eq)]
 pub enum NotHeld {
     NoSpan,
     NoStop,
 }
 
 impl From<NotHeld> for Refusal {
-    ghost from_gives = { λ why refusal. refusal ≡ refusal_of why };
+    ghost from_gives = { λ why r. r ≡ span_refusal why };
 
     fn from(why: NotHeld) -> Refusal {
         match why {

@@ -70,7 +70,7 @@ fn read_state<R: Read>(input: &mut R) -> io::Result<State> {
         length,
         live,
         count,
-        blocks: [state::zero_block(); state::SLOT_LIMIT],
+        blocks: [Block::default(); state::SLOT_LIMIT],
         order: [0; state::SLOT_LIMIT],
         pools: [read_pool(input)?, read_pool(input)?, read_pool(input)?],
     })
@@ -163,16 +163,6 @@ fn show_pools(rt: &impl Print, s: State) -> io::Result<()> {
     Ok(())
 }
 
-fn is_zero(age: usize, b: Block) -> bool {
-    if age | b.pool | b.slot != 0 {
-        return false;
-    }
-    if b.base | b.size != 0 {
-        return false;
-    }
-    b.flags | b.area | b.used | b.start | b.end | b.largest == 0
-}
-
 fn entry_line(rt: &impl Print, i: usize, age: usize, b: Block) -> io::Result<()> {
     let numbers = [
         i as u64,
@@ -193,7 +183,7 @@ fn entry_line(rt: &impl Print, i: usize, age: usize, b: Block) -> io::Result<()>
 
 fn show_entries(rt: &impl Print, s: State) -> io::Result<()> {
     for (i, (age, b)) in s.order.iter().zip(&s.blocks).enumerate() {
-        if !is_zero(*age, *b) {
+        if *age != 0 || *b != Block::default() {
             entry_line(rt, i, *age, *b)?;
         }
     }

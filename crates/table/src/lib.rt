@@ -42,9 +42,9 @@ pub fn lookup_block(s: State, address: u64) -> Option<usize>
 }
 
 // Returns which slots the blocks have.
-fn taken_slots(s: State) -> [bool; state::SLOT_LIMIT]
-    requires { Slotted s }
-    ensures { TakenSlots s s.count result }
+fn taken_slots(s: &State) -> [bool; state::SLOT_LIMIT]
+    requires { Slotted s.now }
+    ensures { TakenSlots s.now s.now.count result }
 {
     let mut taken = [false; state::SLOT_LIMIT];
     for b in &s.blocks[..s.count] {
@@ -58,7 +58,7 @@ pub fn lowest_free_slot(s: State) -> Option<usize>
     requires { Slotted s }
     ensures { result ≡ lowest_slot s }
 {
-    let taken = taken_slots(s);
+    let taken = taken_slots(&s);
     taken[..s.slots].iter().position(|&taken| !taken)
 }
 

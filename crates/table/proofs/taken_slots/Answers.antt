@@ -5,11 +5,11 @@ use Rattle.table.proofs.Slot.{taken_none, taken_more}
 use Rattle.table.proofs.taken_slots.Goals as goal
 
 pub loop-b-init : goal.loop-b-init
-loop-b-init c = taken_none c.args.s
+loop-b-init c = taken_none c.args.s.now
 
 pub loop-b-preserved : goal.loop-b-preserved
 loop-b-preserved c =
-    let s = c.args.s in
+    let s = c.args.s.now in
     let i = c.loop-b.b-index in
     let more = c.loop-b-test.true in
     rw (front_at s.count s.blocks zero_block i more)
