@@ -51,13 +51,8 @@ fn block_line(rt: &impl Print, age: usize, b: &Block, used: u32, stop: u32) -> i
 // ---- a state
 
 fn show_pools(rt: &impl Print, play: &Play) -> io::Result<()> {
-    for (k, q) in play
-        .state
-        .pools
-        .iter()
-        .enumerate()
-        .take(play.feed.state.poolcount)
-    {
+    let s = &play.feed.state;
+    for (k, q) in s.pools.iter().enumerate().take(s.poolcount) {
         pool_line(rt, k, q)?;
     }
     Ok(())
@@ -72,14 +67,8 @@ fn show_block(rt: &impl Print, play: &Play, age: usize, b: &Block) -> io::Result
 }
 
 fn show_blocks(rt: &impl Print, play: &Play) -> io::Result<()> {
-    for (age, b) in play
-        .feed
-        .state
-        .blocks
-        .iter()
-        .enumerate()
-        .take(play.feed.state.count)
-    {
+    let s = &play.feed.state;
+    for (age, b) in s.blocks.iter().enumerate().take(s.count) {
         show_block(rt, play, age, b)?;
     }
     Ok(())
