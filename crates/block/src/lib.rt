@@ -6,7 +6,7 @@ pub mod mark;
 
 ghost use Rattle.std.specs.Prelude.{◌≡◌, ◌+◌, ◌-◌, ◌<◌, ◌≤◌};
 ghost use Rattle.block.specs.Record.{SpanIn, empty_flag, is_on};
-ghost use Rattle.block.specs.Marking.{moved, marked, released, shrunk, fresh};
+ghost use Rattle.block.specs.Marking.{moved, marked, released, emptied, shrunk, fresh};
 
 // A block of `area` units from address `base` on. Its bits are in slot `slot` of both maps. `start` and `end` are its search window,
 // and `largest` is the longest free run that a search has seen.
@@ -72,16 +72,23 @@ impl Block {
     {
         let used = self.used - (to - from);
         if used == 0 {
-            return Block {
-                used,
-                start: 0,
-                end: self.area,
-                largest: self.area,
-                flags: (self.flags | Block::FLAG_EMPTY) & !Block::FLAG_DIRTY,
-                ..self
-            };
+            return self.emptied();
         }
         self.shrunk(from, to)
+    }
+
+    // Makes the record as it is with no unit used.
+    pub fn emptied(self) -> Block
+        ensures { result ≡ emptied self }
+    {
+        Block {
+            used: 0,
+            start: 0,
+            end: self.area,
+            largest: self.area,
+            flags: (self.flags | Block::FLAG_EMPTY) & !Block::FLAG_DIRTY,
+            ..self
+        }
     }
 
     // Updates the record after the tail from `from` up to `to` of a span was freed.

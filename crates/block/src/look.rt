@@ -7,17 +7,12 @@ use crate::Block;
 use runs::Search;
 
 // True if enough units are free, and `largest` is long enough or out of date.
+#[tactic(auto, unfolding(crate::specs::Search::worth_searching))]
 fn worth_searching(b: Block, n: u32) -> bool
     requires { b.used ≤ b.area }
     ensures { result ≡ worth_searching b n }
 {
-    if b.area - b.used < n {
-        return false;
-    }
-    if b.flags & Block::FLAG_DIRTY != 0 {
-        return true;
-    }
-    n <= b.largest
+    n <= b.area - b.used && (b.flags & Block::FLAG_DIRTY != 0 || n <= b.largest)
 }
 
 // Tightens the window to the free units in it: from the first one, up to the end of the last run; `longest` is the longest run's length.

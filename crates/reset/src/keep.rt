@@ -24,26 +24,12 @@ pub fn empty_table(s: State) -> State
     }
 }
 
-// Makes a block's record as it is with no unit used.
-fn emptied_record(b: Block) -> Block
-    ensures { result ≡ emptied b }
-{
-    Block {
-        flags: (b.flags | Block::FLAG_EMPTY) & !Block::FLAG_DIRTY,
-        used: 0,
-        start: 0,
-        end: b.area,
-        largest: b.area,
-        ..b
-    }
-}
-
 // Enters a block, emptied, into a table as its pool's one empty block.
 fn keep_block(r: State, b: Block) -> State
     requires { Insertable r (emptied b) }
     ensures { result ≡ keep r b }
 {
-    let mut x = table::insert::insert_block(r, emptied_record(b));
+    let mut x = table::insert::insert_block(r, b.emptied());
     x.pools[b.pool].empty = 1;
     x
 }

@@ -26,8 +26,7 @@ pub fn count_in(q: Pool, b: Block) -> Pool
 pub fn pool_matches(stored: Pool, sums: Pool, immediate: bool) -> bool
     ensures { result ≡ pool_matches stored sums immediate }
 {
-    let most = if immediate { 0 } else { 1 };
-    stored == sums && sums.empty <= most
+    stored == sums && sums.empty <= u32::from(!immediate)
 }
 
 // True if `pool_matches` holds for each pool.

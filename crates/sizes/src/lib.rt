@@ -35,10 +35,7 @@ impl Pool {
     {
         Pool {
             granularity,
-            blocks: 0,
-            empty: 0,
-            area: 0,
-            used: 0,
+            ..Pool::default()
         }
     }
 }

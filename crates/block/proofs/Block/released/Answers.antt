@@ -4,7 +4,7 @@ use Rattle.block.proofs.Block.released.Goals as goal
 
 pub returns-then-used-eq0 : goal.returns-then-used-eq0
 unfolding released
-returns-then-used-eq0 c = let h = c.if-used-eq0.true in rw (eq-eqb _ _ h, h)
+returns-then-used-eq0 c = rw (eq-eqb _ _ c.if-used-eq0.true) c.emptied.ensures
 
 pub returns : goal.returns
 unfolding released
