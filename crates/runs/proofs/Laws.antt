@@ -274,18 +274,18 @@ pub known_fit : (ws : List ℕ) (a end n p first most : ℕ) → Known ws a end 
 known_fit ws a end n p first most x = fit_mono ws end (most + 1) n a p (omega (arith, x.less)) x.longest
 
 -- ---- the runs that a walk yields are the maximal ones of the window that starts at a, from its start or from where the last one stopped
-pub run_maximal : (ws : List ℕ) (a end hint p start e : ℕ) (w : BitVectorRangeIterator) → RunFrom ws end hint p start e w → a ≤ p → (p ≡ a) ⊎ (bit ws p ≡ 1)
-    → e - start < hint → FreeRun ws a end start e
-run_maximal ws a end hint p start e w r l from g = record {
-  low = omega (arith, r.low);
-  some = r.ends.some;
-  high = r.ends.inside;
-  free = r.ends.free;
+pub run_maximal : (ws : List ℕ) (a end hint p start e at word : ℕ) → p ≤ start → UsedIn ws p start → Ends ws start end hint e at word → a ≤ p
+    → (p ≡ a) ⊎ (bit ws p ≡ 1) → e - start < hint → FreeRun ws a end start e
+run_maximal ws a end hint p start e at word low used ends l from g = record {
+  low = omega (arith, low);
+  some = ends.some;
+  high = ends.inside;
+  free = ends.free;
   opens = ⊎_elim
-      (λ q. ⊎_elim inl (λ u. absurd (omega (arith, u, ap (bit ws) (same q), r.ends.free start (omega arith) r.ends.some))) (⊎_elim (λ z. inl (sym (same q) ∙ z)) inr from))
-      (λ q. inr (r.used (start - 1) (omega arith) (omega arith))) (le-or-lt start p);
-  closes = ⊎_elim (λ q. inl (omega (arith, r.ends.inside))) (λ q. inr (r.ends.stop q g)) (le-or-lt end e);
+      (λ q. ⊎_elim inl (λ u. absurd (omega (arith, u, ap (bit ws) (same q), ends.free start (omega arith) ends.some))) (⊎_elim (λ z. inl (sym (same q) ∙ z)) inr from))
+      (λ q. inr (used (start - 1) (omega arith) (omega arith))) (le-or-lt start p);
+  closes = ⊎_elim (λ q. inl (omega (arith, ends.inside))) (λ q. inr (ends.stop q g)) (le-or-lt end e);
 }
   where
     same : start ≤ p → p ≡ start
-    same q = omega (arith, r.low)
+    same q = omega (arith, low)

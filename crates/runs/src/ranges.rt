@@ -113,11 +113,11 @@ impl<'a> BitVectorRangeIterator<'a> {
 
 impl<'a> Iterator for BitVectorRangeIterator<'a> {
     ghost use Rattle.std.specs.Iterator.{at_most};
-    ghost use Rattle.runs.specs.Steps.{StepAnswer, left};
+    ghost use Rattle.runs.specs.Steps.{SameWindow, StepAnswer, left};
 
     type Item = Range<usize>;
 
-    ghost next_gives = { λ w r v. StepAnswer w v (2 ^ 64 - 1) r };
+    ghost next_gives = { λ w r v. StepAnswer w v (2 ^ 64 - 1) r × SameWindow w v };
 
     ghost remaining = { λ w. at_most (left w) };
 
