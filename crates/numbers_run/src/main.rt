@@ -87,7 +87,7 @@ fn round(rt: &impl Print, size: u64, granularity: u64) -> io::Result<()> {
     }
     match sizes::round_size(size, granularity) {
         Ok(rounded) => println!(rt; "round {size} {granularity} to {rounded}"),
-        Err(why) => println!(rt; "round {size} {granularity} refused {}", why as u64),
+        Err(why) => println!(rt; "round {size} {granularity} refused {}", u64::from(why)),
     }
 }
 

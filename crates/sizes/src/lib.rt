@@ -6,7 +6,7 @@ pub mod limits;
 ghost use Rattle.std.specs.Prelude.{◌≡◌, true, ◌⊎◌, ◌^◌, ◌<◌, ◌≤◌};
 ghost use Rattle.sizes.specs.Limits.{is_granularity};
 ghost use Rattle.sizes.specs.Pools.{fresh_pool, pool_of};
-ghost use Rattle.sizes.specs.Sizes.{rounded, ideal_size};
+ghost use Rattle.sizes.specs.Sizes.{number, rounded, ideal_size};
 
 // The arena's base and length and every block's base are multiples of it: the system's page granularity in the Rust.
 pub const PAGE: u64 = 64 * 1024;
@@ -60,6 +60,14 @@ pub fn size_to_pool_id(size: u64, granularity: u64, poolcount: usize) -> usize
 pub enum SizeError {
     InvalidArgument = 1,
     TooLarge = 2,
+}
+
+impl From<SizeError> for u64 {
+    ghost from_gives = { λ why n. n ≡ number why };
+
+    fn from(why: SizeError) -> u64 {
+        why as u64
+    }
 }
 
 // Rounds a size up to the granularity, or refuses it. It rounds first: a size that wraps becomes 0, and is refused as 0 is.
