@@ -1,7 +1,8 @@
 // Feeds a trace from a file or from standard input to the trace library, one buffer at a time. The programs that play traces share this.
 #![tactic(auto)]
 
-ghost use Rattle.std.specs.Prelude.{◌≡◌, ◌-◌, ◌≤◌, length, take, IfOk, OnErr};
+ghost use Rattle.std.specs.Prelude.{◌≡◌, ◌-◌, ◌/◌, ◌≤◌, length, take, IfOk, OnErr};
+ghost use Rattle.trace.specs.Play.{play};
 
 use state::State;
 use std::env::FillError;
@@ -94,6 +95,7 @@ pub fn start() -> Feed
 
 // Writes the trace's last line, and ends the trace.
 fn last(f: Feed, out: &mut [u8]) -> Feed
+    ensures state_stays { result.state ≡ f.state }
     ensures waiting_stays { result.waiting ≡ f.waiting }
     ensures lines_fit { result.written ≤ length out.old }
 {
@@ -107,7 +109,8 @@ fn last(f: Feed, out: &mut [u8]) -> Feed
 // Reads on, since the buffer holds no whole record; writes the last line if the trace ends. If the read fails, there is no last line.
 fn read_on<R: Read>(source: &mut R, f: Feed, buffer: &mut [u8], out: &mut [u8]) -> io::Result<Feed>
     requires { f.waiting ≤ length buffer.old }
-    ensures { IfOk result (λ r. (r.waiting ≤ length buffer.old) × (r.written ≤ length out.old)) }
+    ensures state_stays { IfOk result (λ r. r.state ≡ f.state) }
+    ensures fits { IfOk result (λ r. (r.waiting ≤ length buffer.old) × (r.written ≤ length out.old)) }
 {
     let more = source.read(&mut buffer[f.waiting..])?;
     if more == 0 {
@@ -125,6 +128,7 @@ fn read_on<R: Read>(source: &mut R, f: Feed, buffer: &mut [u8], out: &mut [u8]) 
 fn go_on(f: Feed, p: Played, buffer: &mut [u8]) -> Feed
     requires taken_waited { p.taken ≤ f.waiting }
     requires waiting_fits { f.waiting ≤ length buffer.old }
+    ensures has_its_state { result.state ≡ p.state }
     ensures waiting_fits { result.waiting ≤ length buffer.old }
     ensures shows_its_lines { result.written ≡ p.written }
 {
@@ -150,6 +154,7 @@ pub fn turn<R: Read>(
 ) -> io::Result<Feed>
     requires { f.waiting ≤ length buffer.old }
     ensures ok { IfOk result (λ r. (r.waiting ≤ length buffer.old) × (r.written ≤ length out.old)) }
+    ensures plays { IfOk result (λ r. r.state ≡ (play (length out.old / 80) f.state used.old stop.old (take f.waiting buffer.old)).state) }
     ensures err { OnErr result ((used.new ≡ used.old) × (stop.new ≡ stop.old)) }
 {
     let waiting = f.waiting;
@@ -207,6 +212,7 @@ impl<'a> Play<'a> {
 
     // Takes one turn (`turn`). If the read fails, it leaves the maps and where the trace stands.
     pub fn turn<R: Read>(&mut self, source: &mut R) -> io::Result<()>
+        ensures plays { IfOk result (λ u. self.new.feed.state ≡ (play (length self.old.out.now / 80) self.old.feed.state self.old.used.now self.old.stop.now (take self.old.feed.waiting self.old.buffer.now)).state) }
         ensures maps_stay { OnErr result ((self.new.used.now ≡ self.old.used.now) × (self.new.stop.now ≡ self.old.stop.now)) }
         ensures feed_stays { OnErr result (self.new.feed ≡ self.old.feed) }
     {
