@@ -3,34 +3,29 @@
 
 ghost use Rattle.std.specs.Prelude.{◌≡◌, ◌*◌, ◌≤◌, ◌<◌, get_or};
 
-use std::{fmt, io};
+use std::io;
 
 // ---- lines
 
-// A line without its end: a word, and numbers with a space before each.
-#[derive(Clone, Copy)]
-struct LineText<'a> {
-    text: &'a str,
-    numbers: &'a [u64],
-}
+// The room of a line: a short word and 14 numbers. What does not fit is left out.
+const ROOM: usize = 320;
 
-impl fmt::Display for LineText<'_> {
-    fn fmt<W: fmt::Write>(&self, f: &mut fmt::Formatter<W>) -> fmt::Result {
-        f.write_str(self.text)?;
-        for n in self.numbers {
-            write!(f, " {n}")?;
-        }
-        Ok(())
-    }
-}
-
-// Writes a word and numbers as a line, in one write. A word that is no text is written as it is, in a write of its own.
+// Writes a word and numbers as a line, in one write.
 pub fn line(rt: &impl Print, word: &[u8], numbers: &[u64]) -> io::Result<()> {
-    let Ok(text) = str::from_utf8(word) else {
-        rt.write_all(word)?;
-        return rt.println(LineText { text: "", numbers });
-    };
-    rt.println(LineText { text, numbers })
+    let mut out = [0; ROOM];
+    let mut end = 0;
+    if word.len() <= ROOM {
+        end = text::put_bytes(&mut out, 0, word);
+    }
+    for n in numbers {
+        if end < ROOM - 21 {
+            end = text::put_number(&mut out, end, *n);
+        }
+    }
+    if end < ROOM {
+        end = text::put_byte(&mut out, end, b'\n');
+    }
+    front(rt, &out, end)
 }
 
 // Writes the bytes up to `end`, in one write.
