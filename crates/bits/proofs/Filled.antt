@@ -6,7 +6,7 @@ use mathlib.Core.List.{List, ◌++◌, append-nil}
 use native.Mathlib.Omega.{arith}
 use native.Mathlib.Numerals.{add-one}
 use lib.Dec.{lit<}
-use lib.ListN.{length, get_or, take, drop, replicate, length-append, length-drop, take-append-drop}
+use lib.ListN.{length, get_or, take, drop, replicate, length-append, length-drop, length-replicate, take-append-drop}
 use lib.Seq.{length-take-le, take_all, drop-length}
 use borrow.Rule.Slice.PartMut.{mid_of, put_mid, Post-is}
 use Rattle.numbers.proofs.Split.{le-or-lt}
@@ -121,3 +121,9 @@ bit_zeros n k = ap (λ (x : ℕ). digit x (k % 32)) (zeros_at n (k / 32)) ∙ di
 
 pub words_zeros : (n : ℕ) → Words (replicate n 0)
 words_zeros n i = subst (λ (x : ℕ). x < 2 ^ 32) (sym (zeros_at n i)) (lit< tt)
+
+pub filled_cleared : (ws : List ℕ) → Words ws → filled ws 0 (32 * length ws) 0 ≡ replicate (length ws) 0
+filled_cleared ws h =
+    let f = filled_has ws 0 (32 * length ws) 0 (lit< tt) (omega arith) in
+    words_ext (filled ws 0 (32 * length ws) 0) (replicate (length ws) 0) (f.size ∙ sym (length-replicate {A = ℕ} (length ws) 0)) (words_filled ws 0 (32 * length ws) 0 h (lit< tt))
+    (words_zeros (length ws)) (λ k q. f.inside k (omega arith) (omega (arith, f.size)) ∙ sym (bit_zeros (length ws) k))

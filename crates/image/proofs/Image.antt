@@ -3,7 +3,7 @@ use Prim.Native.Nat.{ℕ, zero, suc, ◌+◌, ◌/◌, ◌%◌, ◌≤◌, ◌<�
 use mathlib.Core.List.{List, [], ◌∷◌, ◌++◌, append-nil}
 use mathlib.Core.Logic.{◌⊎◌, inl, inr, ⊎_elim}
 use mathlib.Core.Path.{◌≡◌, refl, sym, ap, ◌∙◌}
-use native.Mathlib.Nat.{zero-add, div-one, eq-or-lt_of_le, le_of_suc-le-suc}
+use native.Mathlib.Nat.{div-one, eq-or-lt_of_le, le_of_suc-le-suc}
 use native.Mathlib.Numerals.{add-one}
 use native.Mathlib.Omega.{arith}
 use lib.ListN.{length, set, get_or, length-append, get_or-append}
@@ -34,12 +34,12 @@ filled_none image at pattern = ap (sets image at) (repeated_none pattern)
 pub length_filled : (image : List ℕ) (at n pattern : ℕ) → length (filled_at image at n pattern) ≡ length image
 length_filled image at n pattern = length-sets image at (repeated pattern n)
 
--- a loop over a run puts one byte more
-pub one_more : (run : List ℕ) (n pattern : ℕ) → set (filled_at run 0 n pattern) n (pattern_byte pattern n) ≡ filled_at run 0 (n + 1) pattern
-one_more run n pattern =
-    ap (λ (k : ℕ). set (filled_at run 0 n pattern) k (pattern_byte pattern n)) (sym (length_repeated pattern n) ∙ sym (zero-add (length (repeated pattern n))))
-    ∙ sets_append (repeated pattern n) (pattern_byte pattern n ∷ []) run 0
-    ∙ ap (sets run 0) (sym (repeated_more pattern n))
+-- a loop that goes up puts one byte more
+pub one_more : (image : List ℕ) (at n pattern : ℕ) → set (filled_at image at n pattern) (at + n) (pattern_byte pattern n) ≡ filled_at image at (n + 1) pattern
+one_more image at n pattern =
+    ap (λ (k : ℕ). set (filled_at image at n pattern) (at + k) (pattern_byte pattern n)) (sym (length_repeated pattern n))
+    ∙ sets_append (repeated pattern n) (pattern_byte pattern n ∷ []) image at
+    ∙ ap (sets image at) (sym (repeated_more pattern n))
 
 -- a run that is filled whole
 pub whole_run : (run : List ℕ) (n pattern : ℕ) → length run ≡ n → filled_at run 0 n pattern ≡ repeated pattern n

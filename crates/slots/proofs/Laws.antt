@@ -6,11 +6,12 @@ use mathlib.Core.Path.{◌≡◌, sym, ap, ap₂, subst, ◌∙◌}
 use native.Mathlib.Nat.{mul-le-mul_right, suc-mul}
 use native.Mathlib.Omega.{arith}
 use lib.Dec.{lit<}
-use lib.ListN.{length, get_or, take, drop, length-append, length-take, length-drop, get_or-append, get_or-eq_default}
+use lib.ListN.{length, get_or, take, drop, replicate, length-append, length-take, length-drop, get_or-append, get_or-eq_default}
 use lib.Seq.{length-take-le, take_at, drop_at, get_or-take, get_or-drop, ext_get_or, get_or-append-add}
 use borrow.Rule.Slice.PartMut.{put_same}
 use Rattle.numbers.proofs.Split.{le-or-lt}
-use Rattle.bits.specs.Bits.{Words}
+use Rattle.bits.specs.Bits.{filled, Words}
+use Rattle.bits.proofs.Filled.{filled_cleared}
 use Rattle.slots.specs.Slots.{slot_of, put_slot}
 
 pub length_slot : (w s : ℕ) (ws : List ℕ) → (s + 1) * w ≤ length ws → length (slot_of w s ws) ≡ w
@@ -103,3 +104,9 @@ slot_other w s r ws x h e ne g =
     (λ i q.
     let y : i < w = omega arith in
     slot_word w r (put_slot w s ws x) i y ∙ put_slot_out w s ws x h e (r * w + i) (slots_apart w s r i ne y) ∙ sym (slot_word w r ws i y))
+
+-- every unit of a slot cleared: its words are zero
+pub slot_cleared : (w s : ℕ) (ws : List ℕ) → (s + 1) * w ≤ length ws → Words ws → filled (slot_of w s ws) 0 (32 * w) 0 ≡ replicate w 0
+slot_cleared w s ws h f =
+    let e = length_slot w s ws h in
+    ap (λ (n : ℕ). filled (slot_of w s ws) 0 (32 * n) 0) (sym e) ∙ filled_cleared (slot_of w s ws) (words_slot w s ws f) ∙ ap (λ (n : ℕ). replicate n 0) e

@@ -3,7 +3,8 @@
 use Rattle.std.proofs.Common.{ℕ, ◌≡◌, ◌+◌, ◌-◌, ◌%◌, List, length, take, drop, set, get_or, sym, ap, ◌∙◌, arith, length-drop}
 use Rattle.std.proofs.lemmas.List.{length-take}
 use borrow.Rule.Slice.PartMut.{put_mid}
-use Rattle.image.specs.Image.{repeated, filled_at}
+use native.Mathlib.Nat.{zero-add}
+use Rattle.image.specs.Image.{pattern_byte, repeated, filled_at}
 use Rattle.text.proofs.Put.{part}
 use Rattle.image.proofs.Image.{filled_none, one_more, whole_run, byte_of, length_repeated}
 use Rattle.image.proofs.fill_pattern.Goals as goal
@@ -17,7 +18,7 @@ loop-i-preserved c = let a = c.args in
     let run : List ℕ = take (a.at + a.n - a.at) (drop a.at a.image.now) in
     ap (λ (o : List ℕ). set o l.i (get_or c.to_le_bytes-bytes.result (l.i % 4) 0)) l.invariant
     ∙ ap (set (filled_at run 0 l.i a.pattern) l.i) (ap (λ (bs : List ℕ). get_or bs (l.i % 4) 0) c.to_le_bytes-bytes.ensures ∙ byte_of a.pattern (l.i % 4) (omega arith))
-    ∙ one_more run l.i a.pattern
+    ∙ ap (λ (k : ℕ). set (filled_at run 0 l.i a.pattern) k (pattern_byte a.pattern l.i)) (sym (zero-add l.i)) ∙ one_more run 0 l.i a.pattern
 
 pub returns : goal.returns
 returns c = let a = c.args in
