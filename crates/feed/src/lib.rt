@@ -1,7 +1,7 @@
 // Feeds a trace from a file or from standard input to the trace library, one buffer at a time. The programs that play traces share this.
 #![tactic(auto)]
 
-ghost use Rattle.std.specs.Prelude.{◌≡◌, ◌-◌, ◌/◌, ◌≤◌, length, take, IfOk, OnErr};
+ghost use Rattle.std.specs.Prelude.{◌≡◌, false, ◌+◌, ◌-◌, ◌/◌, ◌%◌, ◌^◌, ◌≤◌, ◌<◌, length, take, IfOk, OnErr};
 ghost use Rattle.trace.specs.Play.{play};
 
 use state::State;
@@ -129,6 +129,7 @@ fn go_on(f: Feed, p: Played, buffer: &mut [u8]) -> Feed
     requires taken_waited { p.taken ≤ f.waiting }
     requires waiting_fits { f.waiting ≤ length buffer.old }
     ensures has_its_state { result.state ≡ p.state }
+    ensures goes_on { (result.offset ≡ (f.offset + p.taken) % 2 ^ 64) × (result.waiting ≡ f.waiting - p.taken) × (result.done ≡ false) }
     ensures waiting_fits { result.waiting ≤ length buffer.old }
     ensures shows_its_lines { result.written ≡ p.written }
 {
@@ -154,6 +155,8 @@ pub fn turn<R: Read>(
 ) -> io::Result<Feed>
     requires { f.waiting ≤ length buffer.old }
     ensures ok { IfOk result (λ r. (r.waiting ≤ length buffer.old) × (r.written ≤ length out.old)) }
+    ensures goes_on { IfOk result (λ r. let run = play (length out.old / 80) f.state used.old stop.old (take f.waiting buffer.old) in
+        0 < run.taken → (r.offset ≡ (f.offset + run.taken) % 2 ^ 64) × (r.waiting ≡ f.waiting - run.taken) × (r.written ≡ length run.lines) × (r.done ≡ false)) }
     ensures plays { IfOk result (λ r. r.state ≡ (play (length out.old / 80) f.state used.old stop.old (take f.waiting buffer.old)).state) }
     ensures err { OnErr result ((used.new ≡ used.old) × (stop.new ≡ stop.old)) }
 {
@@ -212,6 +215,9 @@ impl<'a> Play<'a> {
 
     // Takes one turn (`turn`). If the read fails, it leaves the maps and where the trace stands.
     pub fn turn<R: Read>(&mut self, source: &mut R) -> io::Result<()>
+        ensures goes_on { IfOk result (λ u. let run = play (length self.old.out.now / 80) self.old.feed.state self.old.used.now self.old.stop.now (take self.old.feed.waiting self.old.buffer.now) in
+            0 < run.taken → (self.new.feed.offset ≡ (self.old.feed.offset + run.taken) % 2 ^ 64) × (self.new.feed.waiting ≡ self.old.feed.waiting - run.taken)
+            × (self.new.feed.written ≡ length run.lines) × (self.new.feed.done ≡ false)) }
         ensures plays { IfOk result (λ u. self.new.feed.state ≡ (play (length self.old.out.now / 80) self.old.feed.state self.old.used.now self.old.stop.now (take self.old.feed.waiting self.old.buffer.now)).state) }
         ensures maps_stay { OnErr result ((self.new.used.now ≡ self.old.used.now) × (self.new.stop.now ≡ self.old.stop.now)) }
         ensures feed_stays { OnErr result (self.new.feed ≡ self.old.feed) }

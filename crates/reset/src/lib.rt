@@ -22,7 +22,7 @@ fn clear_blocks(s: State, words: &mut [u32])
 }
 
 // Refuses a bad shape; else clears the slots of all blocks, and leaves the table of a hard or a soft reset. Inlined, since as a function of
-// its own it clears room for two records before the shape test: a refusal then takes three times as long.
+// its own it clears room for two records before the shape test: a refusal then takes twice as long.
 #[tactic(auto, using(crate::proofs::Ready::ready), unfolding(machine::specs::Reset::reset_turn))]
 #[inline(always)]
 fn reset(s: State, used: &mut [u32], stop: &mut [u32], hard: bool) -> Outcome
