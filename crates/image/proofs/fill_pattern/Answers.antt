@@ -1,6 +1,6 @@
 -- The loop keeps: the first `i` bytes of the run are the pattern's. At its end the run is filled whole, and stands in the image. Assumes
 -- nothing.
-use Rattle.std.proofs.Common.{ℕ, ◌≡◌, ◌+◌, ◌-◌, ◌%◌, List, length, take, drop, set, get_or, sym, ap, ◌∙◌, arith, length-drop}
+use Rattle.std.proofs.Common.{ℕ, ◌≡◌, ◌+◌, ◌-◌, List, length, take, drop, set, sym, ap, ◌∙◌, arith, rules, length-drop}
 use Rattle.std.proofs.lemmas.List.{length-take}
 use borrow.Rule.Slice.PartMut.{put_mid}
 use native.Mathlib.Nat.{zero-add}
@@ -12,13 +12,16 @@ use Rattle.image.proofs.fill_pattern.Goals as goal
 pub loop-i-init : goal.loop-i-init
 loop-i-init c = let a = c.args in sym (filled_none (take (a.at + a.n - a.at) (drop a.at a.image.now)) 0 a.pattern)
 
+-- a turn that puts the pattern's byte
+turn : (run bytes : List ℕ) (i pattern byte : ℕ) → bytes ≡ filled_at run 0 i pattern → byte ≡ pattern_byte pattern i → set bytes i byte ≡ filled_at run 0 (i + 1) pattern
+turn run bytes i pattern byte e f =
+    ap (λ (o : List ℕ). set o i byte) e ∙ ap (set (filled_at run 0 i pattern) i) f
+    ∙ ap (λ (k : ℕ). set (filled_at run 0 i pattern) k (pattern_byte pattern i)) (sym (zero-add i)) ∙ one_more run 0 i pattern
+
 pub loop-i-preserved : goal.loop-i-preserved
 loop-i-preserved c = let a = c.args in
     let l = c.loop-i in
-    let run : List ℕ = take (a.at + a.n - a.at) (drop a.at a.image.now) in
-    ap (λ (o : List ℕ). set o l.i (get_or c.to_le_bytes-bytes.result (l.i % 4) 0)) l.invariant
-    ∙ ap (set (filled_at run 0 l.i a.pattern) l.i) (ap (λ (bs : List ℕ). get_or bs (l.i % 4) 0) c.to_le_bytes-bytes.ensures ∙ byte_of a.pattern (l.i % 4) (omega arith))
-    ∙ ap (λ (k : ℕ). set (filled_at run 0 l.i a.pattern) k (pattern_byte a.pattern l.i)) (sym (zero-add l.i)) ∙ one_more run 0 l.i a.pattern
+    turn (take (a.at + a.n - a.at) (drop a.at a.image.now)) l.byte-items l.i a.pattern _ l.invariant (search (rules, byte_of))
 
 pub returns : goal.returns
 returns c = let a = c.args in
