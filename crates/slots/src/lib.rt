@@ -64,7 +64,8 @@ pub fn unmark(words: &mut [u32], slot: usize, w: usize, from: usize, n: usize)
     write(words, slot, w, from, n, false);
 }
 
-// Clears all words of a slot.
+// Clears all words of a slot. To clear all of its units would be the same (`slot_cleared`).
+#[tactic(auto, using(crate::proofs::Laws::slot_cleared))]
 pub fn clear_slot(words: &mut [u32], slot: usize, w: usize)
     requires { ((slot + 1) * w ≤ length words.old) × (w < 2 ^ 32) }
     ensures { words.new ≡ put_slot w slot words.old (replicate w 0) }

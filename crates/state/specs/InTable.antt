@@ -2,7 +2,6 @@
 use Rattle.std.specs.Prelude.{◌<◌}
 use Rattle.numbers.specs.Names.{Age}
 use Rattle.sizes.specs.Limits.{slot_limit}
-use Rattle.block.specs.declared.Block.{Block}
 use Rattle.state.specs.declared.State.{State}
 use Rattle.state.specs.Table.{block_at}
 

@@ -5,6 +5,7 @@ use lib.Count.{count_trailing_zeros}
 use Rattle.bits.specs.Bits.{digit}
 use Rattle.bits.proofs.Digits.{digit_of_zero}
 use Rattle.bits.proofs.Find.{seen_none, lowest}
+use Rattle.runs.specs.Steps.{SameWindow}
 use Rattle.runs.proofs.Laws.{step_after, used_is, run_clear, ends_here, run_taken}
 use Rattle.runs.proofs.ranges.BitVectorRangeIterator.next_range.Goals as goal
 
@@ -12,7 +13,8 @@ pub returns-then-self-eq0-clause-answer : goal.returns-then-self-eq0-clause-answ
 returns-then-self-eq0-clause-answer c =
     let w = c.skip.new.self in
     let s = c.skip.ensures in
-    step_after _ w w c.args.hint None s.same_window s.seen (λ p t. (
+    let same : SameWindow c.args.self.now w = record { words = s.same_window.words; end = omega (arith, s.same_window.end) } in
+    step_after c.args.self.now w w c.args.hint None same s.seen (λ p t. (
       λ k q r. used_is w.slice.now k
           (seen_none w.slice.now w.end p 0 w.at w.word t c.if-self-eq0.true k q (omega (arith, s.word_or_last c.if-self-eq0.true)) r),
       t,
@@ -22,7 +24,8 @@ pub returns-then-self-from-clause-answer : goal.returns-then-self-from-clause-an
 returns-then-self-from-clause-answer c =
     let w = c.skip.new.self in
     let s = c.skip.ensures in
-    step_after _ w w c.args.hint None s.same_window s.seen (λ p t.
+    let same : SameWindow c.args.self.now w = record { words = s.same_window.words; end = omega (arith, s.same_window.end) } in
+    step_after c.args.self.now w w c.args.hint None same s.seen (λ p t.
     let o = lowest w.slice.now w.end p 0 w.at w.word t c.if-self-eq0.false in
     (λ k q r. used_is w.slice.now k (o.before k q (omega arith) r), t))
 
@@ -30,8 +33,9 @@ pub returns-then-used-eq0-clause-answer : goal.returns-then-used-eq0-clause-answ
 returns-then-used-eq0-clause-answer c =
     let w = c.skip.new.self in
     let s = c.skip.ensures in
-    step_after _ w c.extend-to.new.self c.args.hint
-    (Some record { start = w.at * 32 + count_trailing_zeros 32 w.word; end = c.extend-to.result }) s.same_window s.seen (λ p t.
+    let same : SameWindow c.args.self.now w = record { words = s.same_window.words; end = omega (arith, s.same_window.end) } in
+    step_after c.args.self.now w c.extend-to.new.self c.args.hint
+    (Some record { start = w.at * 32 + count_trailing_zeros 32 w.word; end = c.extend-to.result }) same s.seen (λ p t.
     let o = lowest w.slice.now w.end p 0 w.at w.word t c.if-self-eq0.false in
     record {
       low = omega (arith, o.low);
@@ -46,8 +50,9 @@ pub returns-clause-answer : goal.returns-clause-answer
 returns-clause-answer c =
     let w = c.skip.new.self in
     let s = c.skip.ensures in
-    step_after _ w _ c.args.hint
-    (Some record { start = w.at * 32 + count_trailing_zeros 32 w.word; end = c.min-to.result }) s.same_window s.seen (λ p t.
+    let same : SameWindow c.args.self.now w = record { words = s.same_window.words; end = omega (arith, s.same_window.end) } in
+    step_after c.args.self.now w _ c.args.hint
+    (Some record { start = w.at * 32 + count_trailing_zeros 32 w.word; end = c.min-to.result }) same s.seen (λ p t.
     let o = lowest w.slice.now w.end p 0 w.at w.word t c.if-self-eq0.false in
     record {
       low = omega (arith, o.low);
