@@ -1,5 +1,5 @@
 -- A whole record is one step of `Going`; a cut record, a bad one or no room ends it, as in the definition. Assumes nothing.
-use Rattle.std.proofs.Common.{◌≡◌, ◌+◌, ◌-◌, ◌/◌, length, drop, take_all, length-drop, refl, sym, ap, ◌∙◌, arith}
+use Rattle.std.proofs.Common.{ℕ, Bool, List, ◌≡◌, ◌+◌, ◌-◌, ◌/◌, subst, length, drop, take_all, length-drop, refl, sym, ap, ◌∙◌, arith}
 use Rattle.machine.specs.Turn.{turn}
 use denote.Enum.Bare.{sameb}
 use Rattle.records.specs.contracts.Unread.{the_type}
@@ -7,6 +7,8 @@ use Rattle.records.specs.declared.Unread.{Unread}
 use Rattle.records.specs.declared.Unread.TheVariants.{Cut, Bad}
 use Rattle.records.specs.Records.{record_of}
 use Rattle.records.proofs.Ways.{whole_size}
+use Rattle.state.specs.declared.State.{State}
+use Rattle.trace.specs.Play.{Run, Plays}
 use Rattle.trace.proofs.Going.{is_bad, no_room, ended, one_more}
 use Rattle.trace.proofs.play.Goals.{After-read}
 use Rattle.trace.proofs.play.Goals as goal
@@ -22,12 +24,16 @@ same_bad : (why : Unread) → sameb the_type why Bad ≡ is_bad why
 same_bad Cut = refl
 same_bad Bad = refl
 
+-- the same run, with what it says of a bad record
+with_bad : {all : Run} {before : List ℕ} {s : State} {u t : List ℕ} {taken : ℕ} {said bad : Bool} {out : List ℕ} {written : ℕ}
+    → Plays all before s u t taken said out written → bad ≡ said → Plays all before s u t taken bad out written
+with_bad {all} {before} {s} {u} {t} {taken} {said} {bad} {out} {written} p e = subst (λ (b : Bool). Plays all before s u t taken b out written) (sym e) p
+
 pub returns-in-Err-clause-plays : goal.returns-in-Err-clause-plays
 returns-in-Err-clause-plays c =
     let why = c.in-Err.unread in
-    rw (c.eq.ensures ∙ same_bad why)
-    (ended (length c.args.out.now / 80 - (c.loop.counter + 1)) why (omega arith) (sym (front (goal.at.returns-in-Err-clause-plays c).After-read) ∙ c.in-Err.is)
-    c.loop.invariant.going)
+    with_bad (ended (length c.args.out.now / 80 - (c.loop.counter + 1)) why (omega arith) (sym (front (goal.at.returns-in-Err-clause-plays c).After-read) ∙ c.in-Err.is)
+    c.loop.invariant.going) (grind (arith, c.eq.ensures ∙ same_bad why))
 
 pub overflow_add-p : goal.overflow_add-p
 overflow_add-p c =

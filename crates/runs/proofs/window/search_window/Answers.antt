@@ -1,8 +1,8 @@
 -- The loop keeps `Searches`: what is known of the runs that were passed, all shorter than `n`. So the first run of `n` units is the lowest
 -- place (`fits`); if none comes, the window is tight or full. Assumes nothing.
-use Rattle.std.proofs.Common.{◌∙◌, Some, None, arith}
+use Rattle.std.proofs.Common.{◌∙◌, Some, None, subst, arith}
 use Rattle.runs.specs.Steps.{RunFrom}
-use Rattle.runs.specs.Window.{UsedIn}
+use Rattle.runs.specs.Window.{UsedIn, Lowest}
 use Rattle.runs.proofs.Passed.{passed_to, stepped, fits, full, tight, first_run, next_run}
 use Rattle.runs.proofs.window.search_window.Goals.{In-Some, In_default}
 use Rattle.runs.proofs.window.search_window.Goals as goal
@@ -30,8 +30,9 @@ returns-then-n-length c =
     let a = c.args in
     let l = c.loop-run in
     let r = c.in-Some.run' in
-    fits a.words.now a.start a.end a.n l.passed r.start r.end c.next_range.new.self (omega arith) l.invariant.known
-    (run_of (goal.at.returns-then-n-length c).In-Some) c.if-n-length.true
+    subst (Lowest a.words.now a.start a.end a.n) (grind arith)
+    (fits a.words.now a.start a.end a.n l.passed r.start r.end c.next_range.new.self (omega arith) l.invariant.known
+    (run_of (goal.at.returns-then-n-length c).In-Some) c.if-n-length.true)
 
 pub loop-run-preserved-in-None : goal.loop-run-preserved-in-None
 loop-run-preserved-in-None c =
